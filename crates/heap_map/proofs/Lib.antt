@@ -7,3 +7,4 @@ pub mod Totals
 pub mod Exact
 pub mod Requests
 pub mod RootBlocks
+pub mod Told

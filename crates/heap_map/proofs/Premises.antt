@@ -1,9 +1,7 @@
 -- What the readers of an image need of a sound one.
-use Rattle.std.proofs.Common.{◌≡◌, ◌+◌, ◌*◌, ◌<◌, ◌≤◌, ◌^◌, ℕ, true, List, length, sym, ◌∙◌, arith}
+use Rattle.std.proofs.Common.{◌+◌, ◌<◌, ◌≤◌, ℕ, List, length, arith}
 use Rattle.pool_layout.specs.Layout.{layout_of}
 use Rattle.pool_layout.specs.Header.{version_in, granules_in}
-use Rattle.pool_layout.proofs.Layouts.{layout_rules}
-use Rattle.image_tables.specs.Tables.{is_slab, tables_of}
 use Rattle.heap_check.specs.Image.{IsSoundImage}
 use Rattle.heap_check.proofs.Sizes.{sizes_of}
 use Rattle.image_defects.proofs.Faultless.{faultless_of}
@@ -11,6 +9,8 @@ use Rattle.image_reading.specs.Extents.{HasExtents}
 use Rattle.image_reading.specs.Held.{AreSlabsAt}
 use Rattle.defect_search.specs.Arena.{IsArena}
 use Rattle.image_check.proofs.Premises as premises
+use Rattle.heap_map.specs.LogRules.{log_rules}
+use Rattle.heap_map.proofs.Granules.{IsLaid}
 
 module _ (words : List ℕ) (sound : IsSoundImage words) where
   pub arena_of : IsArena words
@@ -32,6 +32,9 @@ module _ (words : List ℕ) (sound : IsSoundImage words) where
   -- an arena has few granules, and the heap begins among the first of them
   pub few_granules : granules_in words ≤ 4096
   few_granules = (sizes_of words sound.formed).most
+
+  pub laid : IsLaid log_rules words
+  laid = record { extents = sound.sound.extents; first = (sizes_of words sound.formed).first; few = few_granules }
 
   pub few_first : (layout_of (version_in words)).first_granule < 4096
   few_first = let sizes = sizes_of words sound.formed in omega (arith, sizes.first, sizes.most)

@@ -1,12 +1,12 @@
 -- The longest row of free granules, and which requests of whole granules find a place.
-use Rattle.std.proofs.Common.{◌≡◌, ◌≢◌, ◌↔◌, ◌+◌, ◌-◌, ◌*◌, ◌/◌, ◌<◌, ◌≤◌, ℕ, refl, sym, subst, ◌∙◌, arith, inl, inr, ⊎_elim}
-use Rattle.std.proofs.lemmas.Bool.{cases_eq, cases_lt}
-use Rattle.size_classes.specs.Classes.{granules_of, IsClassOf, class_size}
+use Rattle.std.proofs.Common.{◌≡◌, ◌≢◌, ◌+◌, ◌*◌, ◌<◌, ℕ, sym, subst, arith, inl, inr, ⊎_elim}
+use Rattle.std.proofs.lemmas.Bool.{cases_eq}
+use Rattle.size_classes.specs.Classes.{granules_of}
 use Rattle.size_classes.proofs.Spacing.{class_size-most}
 use Rattle.image_tables.specs.Tables.{Tables}
 use Rattle.heap_model.specs.Machine.{Bounds}
-use Rattle.heap_model.specs.Runs.{IsFreeRow, IsFreeRun, HasNoFit}
-use Rattle.heap_model.specs.Choice.{HasNoSite, HasNoSmallSite, HasNoLargeSite}
+use Rattle.heap_model.specs.Runs.{IsFreeRun, HasNoFit}
+use Rattle.heap_model.specs.Choice.{HasNoSite}
 use Rattle.heap_check.specs.Sound.{IsVacant}
 use Rattle.heap_check.specs.Views.{tables_view}
 use Rattle.heap_map.specs.Facts.{IsLongestRow, IsGreatestRequest}

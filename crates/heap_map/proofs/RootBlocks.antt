@@ -1,24 +1,24 @@
 -- The block of a root of a sound image: where it begins, and how large it is.
-use Rattle.std.proofs.Common.{◌≡◌, ◌≢◌, ◌⊎◌, ◌+◌, ◌*◌, ◌/◌, ◌<◌, ◌≤◌, ℕ, true, false, Bool, cond, eqb, List, length, Option, Some, None, refl, sym, ap, subst, ◌∙◌, arith, inl, inr, ⊎_elim}
-use Rattle.std.proofs.lemmas.Bool.{cases_eq, cond-true, cond-false, eq-eqb, ne_eqb, eqb-true}
+use Rattle.std.proofs.Common.{◌≡◌, ◌≢◌, ◌+◌, ◌*◌, ◌/◌, ◌<◌, ◌≤◌, ℕ, true, false, Bool, cond, eqb, List, length, Option, Some, None, refl, sym, ap, subst, ◌∙◌, arith, ⊎_elim}
+use Rattle.std.proofs.lemmas.Bool.{cases_eq, cond-true, cond-false, eq-eqb, ne_eqb}
 use Rattle.size_classes.proofs.Spacing.{class_size-most, class_size-least}
 use Rattle.pool_layout.specs.Header.{granules_in}
 use Rattle.image_tables.specs.declared.entry.WalEntry.{WalEntry}
 use Rattle.image_tables.specs.declared.entry.WalEntry.TheVariants.{Place, Move}
 use Rattle.image_tables.specs.Tables.{Tables, is_slab, tables_of}
-use Rattle.heap_model.specs.Machine.{Range, slab_block}
+use Rattle.heap_model.specs.Machine.{slab_block}
 use Rattle.heap_model.proofs.Slabbing.{LiesIn-block}
 use Rattle.heap_check.specs.Heap.{slab_of, is_large, is_old, entry_at, entry_old, size_by, size_at, claim_at, heap, IsClaim}
-use Rattle.heap_check.specs.Sound.{IsHeld, IsOpen, IsOpenPlace, IsNewEntry, IsOldEntry}
-use Rattle.heap_check.specs.Image.{bounds_of, IsSoundImage}
+use Rattle.heap_check.specs.Sound.{IsHeld, IsNewEntry, IsOldEntry}
+use Rattle.heap_check.specs.Image.{IsSoundImage}
 use Rattle.heap_check.proofs.Geometry.{granules_at-slab, granules_at-live, is_large-parts}
 use Rattle.heap_check.proofs.Within.{IsWithin-held}
 use Rattle.heap_check.proofs.Sizes.{sizes_of}
-use Rattle.image_reading.specs.Held.{AreSlabsAt}
 use Rattle.defect_search.specs.declared.claim.Claim.{Claim}
 use Rattle.defect_search.specs.Claims.{claim_in, range_of, AreClaims}
 use Rattle.defect_search.proofs.BlockSizes.{class_none, old_table-none, size_at-large}
 use Rattle.image_check.proofs.LooseBlocks.{heap_some}
+use Rattle.heap_map.specs.LogRules.{log_rules}
 use Rattle.heap_map.specs.Blocks.{IsRootBlock}
 use Rattle.heap_map.proofs.Premises.{slabs_of}
 
@@ -116,7 +116,7 @@ module _ (words : List ℕ) (sound : IsSoundImage words) where
       record { some = some; place = here; wide = ap (size_at (tables_of words) root) here }
 
   -- is the block that it holds
-  pub block_of_claim : (root : ℕ) (claim : Claim) → (tables_of words).root root ≢ 0 → claim.root ≡ root → IsClaim (tables_of words) claim.root (range_of claim) → IsRootBlock words root (record { at = claim.at; size = claim.size })
+  pub block_of_claim : (root : ℕ) (claim : Claim) → (tables_of words).root root ≢ 0 → claim.root ≡ root → IsClaim (tables_of words) claim.root (range_of claim) → IsRootBlock log_rules words root (record { at = claim.at; size = claim.size })
   block_of_claim root claim some same is =
       let own : IsClaim (tables_of words) root (range_of claim) = subst (λ r. IsClaim (tables_of words) r (range_of claim)) same is in
       let held : claim_at (tables_of words) root ≡ (tables_of words).root root = (held_claim root some).place in

@@ -1,10 +1,9 @@
 -- The slab that begins at a granule, and how many blocks live in it.
-use Rattle.std.proofs.Common.{◌≡◌, ◌≢◌, ◌↔◌, ◌+◌, ◌*◌, ◌<◌, ◌≤◌, ℕ, zero, suc, true, false, true≢false, List, refl, sym, ap, subst, ◌∙◌, arith, inl, inr, ⊎_elim}
+use Rattle.std.proofs.Common.{◌≡◌, ◌≢◌, ◌<◌, ◌≤◌, ℕ, zero, suc, List, refl, sym, ap, subst, ◌∙◌, arith, inl, inr, ⊎_elim}
 use Rattle.std.proofs.lemmas.Bool.{cases_lt}
 use Rattle.size_classes.specs.Classes.{class_capacity}
 use Rattle.image_tables.specs.Forms.{morphing_kind}
-use Rattle.image_tables.specs.Tables.{SlabHeader, Tables, tables_of}
-use Rattle.slab_header.specs.State.{kind_of}
+use Rattle.image_tables.specs.Tables.{SlabHeader, tables_of}
 use Rattle.heap_check.specs.Sound.{IsValidSlab}
 use Rattle.heap_check.specs.Image.{IsSoundImage}
 use Rattle.heap_check.proofs.Geometry.{number_few, index_count_few}
@@ -12,9 +11,11 @@ use Rattle.image_defects.specs.Count.{IsCount}
 use Rattle.heap_map.specs.declared.cell.SlabFill.{SlabFill}
 use Rattle.heap_map.specs.declared.cell.Kind.{Kind}
 use Rattle.heap_map.specs.declared.cell.Kind.TheVariants.{Slab}
-use Rattle.heap_map.specs.Cells.{IsSetBit, IsLiveBit, IsLivePlace, IsLiveCount, IsOldCount, IsSlabFill, IsKind}
+use Rattle.heap_map.specs.LogRules.{log_rules}
+use Rattle.heap_map.specs.Cells.{IsSetBit, IsLiveBit, IsLivePlace, IsLiveCount, IsKind}
 use Rattle.heap_map.specs.Scans.{HasNoFill, IsFillAt}
 use Rattle.heap_map.proofs.Granules.{slab_kind}
+use Rattle.heap_map.proofs.Premises.{laid}
 
 -- counts
 
@@ -59,7 +60,7 @@ no_live_bits h morphing = count_none (IsLiveBit h) (class_capacity h.class) (λ 
 
 -- the slab at a granule
 
-pub fill_there : (words : List ℕ) (k : ℕ) (fill : SlabFill) → IsSoundImage words → IsKind words k (Slab fill) → fill.slab.start ≡ k → IsFillAt (tables_of words) k fill
+pub fill_there : (words : List ℕ) (k : ℕ) (fill : SlabFill) → IsSoundImage words → IsKind log_rules words k (Slab fill) → fill.slab.start ≡ k → IsFillAt (tables_of words) k fill
 fill_there words k fill sound is same = subst (λ s. IsFillAt (tables_of words) s fill) same (record {
   slab = is.0.slab;
   kind = is.0.state.kind;
@@ -77,17 +78,17 @@ fill_there words k fill sound is same = subst (λ s. IsFillAt (tables_of words) 
     valid : IsValidSlab h
     valid = sound.sound.slabs fill.slab.start is.0.slab
 
-pub no_fill_there : (words : List ℕ) (k : ℕ) (fill : SlabFill) → IsSoundImage words → IsKind words k (Slab fill) → fill.slab.start ≢ k → HasNoFill (tables_of words) k
+pub no_fill_there : (words : List ℕ) (k : ℕ) (fill : SlabFill) → IsSoundImage words → IsKind log_rules words k (Slab fill) → fill.slab.start ≢ k → HasNoFill (tables_of words) k
 no_fill_there words k fill sound is other = record {
   none = λ slab.
-      let found = slab_kind words sound k (Slab fill) is slab in
+      let found = slab_kind log_rules words (laid words sound) k (Slab fill) is slab in
       let same : fill ≡ found.0 = cc (found.1) in
       other (ap (λ (f : SlabFill). f.slab.start) same ∙ found.2);
 }
 
-pub no_fill_of_kind : (words : List ℕ) (k : ℕ) (kind : Kind) → IsSoundImage words → IsKind words k kind → ((fill : SlabFill) → kind ≢ Slab fill) → HasNoFill (tables_of words) k
+pub no_fill_of_kind : (words : List ℕ) (k : ℕ) (kind : Kind) → IsSoundImage words → IsKind log_rules words k kind → ((fill : SlabFill) → kind ≢ Slab fill) → HasNoFill (tables_of words) k
 no_fill_of_kind words k kind sound is other = record {
   none = λ slab.
-      let found = slab_kind words sound k kind is slab in
+      let found = slab_kind log_rules words (laid words sound) k kind is slab in
       other found.0 found.1;
 }

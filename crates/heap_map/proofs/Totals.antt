@@ -1,5 +1,5 @@
 -- Totals, one granule more.
-use Rattle.std.proofs.Common.{◌≡◌, ◌+◌, ℕ, suc, refl, sym, subst, add-one}
+use Rattle.std.proofs.Common.{◌+◌, ℕ, refl, sym, subst, add-one}
 use Rattle.heap_map.specs.Facts.{IsTotal}
 
 pub total_more : (Has : ℕ → ℕ → Type 0) (n total here : ℕ) → IsTotal Has n total → Has n here → IsTotal Has (n + 1) (total + here)

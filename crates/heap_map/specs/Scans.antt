@@ -14,6 +14,7 @@ use Rattle.heap_map.specs.declared.reading.Reading.{Reading}
 use Rattle.heap_map.specs.declared.scanning.Scan.{Scan}
 use Rattle.heap_map.specs.declared.runs.Runs.{Runs}
 use Rattle.slab_header.specs.State.{kind_of, class_of, old_of}
+use Rattle.heap_map.specs.Rules.{MapRules}
 use Rattle.heap_map.specs.Cells.{IsLiveCount, IsOldCount, HasOpen, IsCell, cell_in}
 
 -- the image is sound, and what was read of it is what its tables say: the live extents, whether an entry is open, and the
@@ -30,20 +31,20 @@ pub record IsReading (words : List ℕ) (reading : Reading) : Type 0 where
   pub met : AreMarks (IsNamedGranule (tables_of words) (layout_of (version_in words)).roots) reading.met.items
 
 -- the cell is that of each granule of the extent that begins at a start
-pub record IsExtentCell (words : List ℕ) (start : ℕ) (cell : Cell) : Type 0 where
-  pub each : (k : ℕ) → Covers (tables_of words) start k → IsCell words k cell
+pub record IsExtentCell (r : MapRules) (words : List ℕ) (start : ℕ) (cell : Cell) : Type 0 where
+  pub each : (k : ℕ) → Covers (r.tables words) start k → IsCell r words k cell
 
 -- the extents that begin before granule n end where the scan says at the latest, and from the last of these granules on up to
 -- there its cell is the right one
-pub record IsScan (words : List ℕ) (n : ℕ) (scan : Scan) : Type 0 where
+pub record IsScan (r : MapRules) (words : List ℕ) (n : ℕ) (scan : Scan) : Type 0 where
   pub inside : scan.end ≤ granules_in words
-  pub ended : (start : ℕ) → start < n → 0 < granules_at (tables_of words) start → start + granules_at (tables_of words) start ≤ scan.end
-  pub cell : (k : ℕ) → n ≤ k + 1 → k < scan.end → IsCell words k scan.cell
+  pub ended : (start : ℕ) → start < n → 0 < granules_at (r.tables words) start → start + granules_at (r.tables words) start ≤ scan.end
+  pub cell : (k : ℕ) → n ≤ k + 1 → k < scan.end → IsCell r words k scan.cell
 
 -- the row has the cells of the first n granules
-pub record AreCellsBelow (words : List ℕ) (n : ℕ) (cells : List Cell) : Type 0 where
+pub record AreCellsBelow (r : MapRules) (words : List ℕ) (n : ℕ) (cells : List Cell) : Type 0 where
   pub all : length cells ≡ n
-  pub each : (k : ℕ) → k < n → IsCell words k (cell_in cells k)
+  pub each : (k : ℕ) → k < n → IsCell r words k (cell_in cells k)
 
 -- no slab begins at the granule
 pub record HasNoFill (t : Tables) (start : ℕ) : Type 0 where

@@ -6,6 +6,7 @@ ghost use Rattle.heap_check.specs.Image.{IsSoundImage};
 ghost use Rattle.image_defects.specs.Defects.{IsFirstDefect};
 ghost use Rattle.image_check.specs.Faults.{IfDefect};
 ghost use Rattle.defect_search.specs.Claims.{AreClaims};
+ghost use Rattle.heap_map.specs.LogRules.{log_rules};
 ghost use Rattle.heap_map.specs.Blocks.{IsRootBlock};
 
 use crate::reading::log_of;
@@ -26,7 +27,7 @@ pub struct RootBlock {
 /// defect exactly where they are not, and it is the first in the order of the format. Either yields to want of memory.
 pub fn block_of(alloc: Global, words: &[u64], root: u32) -> Result<Option<RootBlock>, CheckFault>
     ensures sound { OnOk result (IsSoundImage words.now) }
-    ensures block { IfOk result (λ found. MatchOption found (heap (tables_of words.now) root ≡ None) (IsRootBlock words.now root)) }
+    ensures block { IfOk result (λ found. MatchOption found (heap (tables_of words.now) root ≡ None) (IsRootBlock log_rules words.now root)) }
     ensures defect { IfErr result (λ fault. IfDefect fault (IsFirstDefect words.now)) }
 {
     match check_arena(alloc, words) {
@@ -42,7 +43,7 @@ pub fn block_of(alloc: Global, words: &[u64], root: u32) -> Result<Option<RootBl
 // The same of a sound image.
 fn find(alloc: Global, words: &[u64], root: u32) -> Result<Option<RootBlock>, OutOfMemory>
     requires { IsSoundImage words.now }
-    ensures { IfOk result (λ found. MatchOption found (heap (tables_of words.now) root ≡ None) (IsRootBlock words.now root)) }
+    ensures { IfOk result (λ found. MatchOption found (heap (tables_of words.now) root ≡ None) (IsRootBlock log_rules words.now root)) }
 {
     let log = log_of(alloc, words)?;
     let entry = open_entry(words);
@@ -58,7 +59,7 @@ fn held_among(words: &[u64], claims: &[Claim], root: u32) -> Option<RootBlock>
     requires sound { IsSoundImage words.now }
     requires claims { AreClaims (tables_of words.now) claims.now }
     requires some { (tables_of words.now).root root ≢ 0 }
-    ensures { MatchOption result (heap (tables_of words.now) root ≡ None) (IsRootBlock words.now root) }
+    ensures { MatchOption result (heap (tables_of words.now) root ≡ None) (IsRootBlock log_rules words.now root) }
 {
     for i in 0..claims.len() {
         let claim = claims[i];

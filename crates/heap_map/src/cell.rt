@@ -7,10 +7,15 @@ use image_reading::Slab;
 pub struct SlabFill {
     /// The granule at which it begins, and its state.
     pub slab: Slab,
-    /// Blocks of its class whose bits are set; none while it is taking the class.
+    /// Blocks of its class that live in it. In the LOG variant they are those whose bits are set, and none while it is taking
+    /// the class.
     pub live: u32,
-    /// Blocks of the class before that live by its index table.
+    /// Blocks of other classes that live in it. In the LOG variant they are of the class before, and live by its index table.
     pub old: u32,
+    /// Bytes of all of these.
+    pub bytes: u32,
+    /// It is in transition.
+    pub turns: bool,
 }
 
 /// What a granule of an arena is. A start is the granule at which an extent begins.

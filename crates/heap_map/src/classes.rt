@@ -6,8 +6,9 @@ ghost use Rattle.image_tables.specs.Tables.{tables_of};
 ghost use Rattle.slab_header.specs.State.{kind_of, class_of, old_of};
 ghost use Rattle.heap_check.specs.Image.{IsSoundImage};
 ghost use Rattle.image_defects.specs.Count.{IsCount};
+ghost use Rattle.heap_map.specs.LogRules.{log_rules};
 ghost use Rattle.heap_map.specs.Cells.{IsKind, AreCells};
-ghost use Rattle.heap_map.specs.Facts.{IsInTransition, IsOfClass, WasOfClass, HasLive, HasOld, IsClassFill, AreClassFills};
+ghost use Rattle.heap_map.specs.Facts.{IsOfClass, WasOfClass, HasLive, HasOld, IsClassFill, AreClassFills};
 ghost use Rattle.heap_map.specs.Scans.{HasNoFill, IsFillAt};
 
 use crate::cell::{Cell, Kind, SlabFill};
@@ -23,7 +24,7 @@ const CLASSES: u8 = 36;
 // The slab that begins at a granule, if this one that has the granule does.
 fn fill_here(words: &[u64], granule: u32, fill: SlabFill) -> Option<SlabFill>
     requires sound { IsSoundImage words.now }
-    requires kind { IsKind words.now granule (Kind.Slab fill) }
+    requires kind { IsKind log_rules words.now granule (Kind.Slab fill) }
     ensures { MatchOption result (HasNoFill (tables_of words.now) granule) (IsFillAt (tables_of words.now) granule) }
 {
     if fill.slab.start != granule {
@@ -35,7 +36,7 @@ fn fill_here(words: &[u64], granule: u32, fill: SlabFill) -> Option<SlabFill>
 // The slab that begins at a granule of this kind, if one does.
 fn fill_of_kind(words: &[u64], granule: u32, kind: Kind) -> Option<SlabFill>
     requires sound { IsSoundImage words.now }
-    requires kind { IsKind words.now granule kind }
+    requires kind { IsKind log_rules words.now granule kind }
     ensures { MatchOption result (HasNoFill (tables_of words.now) granule) (IsFillAt (tables_of words.now) granule) }
 {
     match kind {
@@ -47,7 +48,7 @@ fn fill_of_kind(words: &[u64], granule: u32, kind: Kind) -> Option<SlabFill>
 // The slab that begins at a granule, if one does.
 fn fill_at(words: &[u64], cells: &[Cell], granule: u32) -> Option<SlabFill>
     requires sound { IsSoundImage words.now }
-    requires cells { AreCells words.now cells.now }
+    requires cells { AreCells log_rules words.now cells.now }
     requires inside { granule < length cells.now }
     ensures { MatchOption result (HasNoFill (tables_of words.now) granule) (IsFillAt (tables_of words.now) granule) }
 {
@@ -66,17 +67,6 @@ fn class_of(state: SlabState) -> u8
     }
 }
 
-// The slab is in transition.
-fn is_turning(state: SlabState) -> bool
-    ensures { IsTrue result ↔ (kind_of state ≢ normal_kind) }
-{
-    match state {
-        SlabState::Normal { .. } => false,
-        SlabState::Morphing { .. } => true,
-        SlabState::Morphed { .. } => true,
-    }
-}
-
 // The slab is in transition, and had the class before.
 fn was_class(state: SlabState, class: u8) -> bool
     ensures { IsTrue result ↔ ((kind_of state ≢ normal_kind) × (old_of state ≡ class)) }
@@ -88,36 +78,10 @@ fn was_class(state: SlabState, class: u8) -> bool
     }
 }
 
-// A slab in transition begins at a granule.
-fn is_in_transition(words: &[u64], cells: &[Cell], granule: u32) -> bool
-    requires sound { IsSoundImage words.now }
-    requires cells { AreCells words.now cells.now }
-    requires inside { granule < length cells.now }
-    ensures { IsTrue result ↔ IsInTransition (tables_of words.now) granule }
-{
-    match fill_at(words, cells, granule) {
-        Some(fill) => is_turning(fill.slab.state),
-        None => false,
-    }
-}
-
-/// How many slabs are in transition.
-pub(crate) fn count_transitions(words: &[u64], cells: &[Cell]) -> u32
-    requires sound { IsSoundImage words.now }
-    requires cells { AreCells words.now cells.now }
-    ensures { IsCount (IsInTransition (tables_of words.now)) (granules_in words.now) result }
-{
-    let mut count = 0;
-    for granule in 0..cells.len() as u32 {
-        count = counted(count, is_in_transition(words, cells, granule));
-    }
-    count
-}
-
 // A slab of the class begins at a granule.
 fn is_of_class(words: &[u64], cells: &[Cell], class: u8, granule: u32) -> bool
     requires sound { IsSoundImage words.now }
-    requires cells { AreCells words.now cells.now }
+    requires cells { AreCells log_rules words.now cells.now }
     requires inside { granule < length cells.now }
     ensures { IsTrue result ↔ IsOfClass (tables_of words.now) class granule }
 {
@@ -130,7 +94,7 @@ fn is_of_class(words: &[u64], cells: &[Cell], class: u8, granule: u32) -> bool
 // How many blocks of the class live in the slab of the class that begins at a granule.
 fn live_at(words: &[u64], cells: &[Cell], class: u8, granule: u32) -> u32
     requires sound { IsSoundImage words.now }
-    requires cells { AreCells words.now cells.now }
+    requires cells { AreCells log_rules words.now cells.now }
     requires inside { granule < length cells.now }
     ensures live { HasLive (tables_of words.now) class granule result }
     ensures few { result ≤ 4096 }
@@ -147,7 +111,7 @@ fn live_at(words: &[u64], cells: &[Cell], class: u8, granule: u32) -> u32
 // How many blocks of the class live in the slab that begins at a granule and took another class.
 fn old_at(words: &[u64], cells: &[Cell], class: u8, granule: u32) -> u32
     requires sound { IsSoundImage words.now }
-    requires cells { AreCells words.now cells.now }
+    requires cells { AreCells log_rules words.now cells.now }
     requires inside { granule < length cells.now }
     ensures old { HasOld (tables_of words.now) class granule result }
     ensures few { result ≤ 64 }
@@ -164,7 +128,7 @@ fn old_at(words: &[u64], cells: &[Cell], class: u8, granule: u32) -> u32
 // How full the slabs of a class are.
 fn class_fill(words: &[u64], cells: &[Cell], class: u8) -> ClassFill
     requires sound { IsSoundImage words.now }
-    requires cells { AreCells words.now cells.now }
+    requires cells { AreCells log_rules words.now cells.now }
     ensures { IsClassFill (tables_of words.now) (granules_in words.now) class result }
 {
     let mut fill = ClassFill {
@@ -187,8 +151,8 @@ pub(crate) fn class_fills(
     cells: &[Cell],
 ) -> Result<Vec<ClassFill>, OutOfMemory>
     requires sound { IsSoundImage words.now }
-    requires cells { AreCells words.now cells.now }
-    ensures { IfOk result (λ fills. AreClassFills words.now fills.items) }
+    requires cells { AreCells log_rules words.now cells.now }
+    ensures { IfOk result (λ fills. AreClassFills log_rules words.now fills.items) }
 {
     let mut fills = Vec::with_capacity(alloc, CLASSES as usize)?;
     for class in 0..CLASSES {

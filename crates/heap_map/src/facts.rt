@@ -2,6 +2,15 @@
 
 use image_defects::Summary;
 
+/// How an arena is kept.
+#[derive(Clone, Copy, Debug, PartialEq, Eq)]
+pub enum Variant {
+    /// Which small blocks live is said by bits, and write-ahead entries say what is under way.
+    Log,
+    /// Which small blocks live is said by the words of roots alone.
+    Gc,
+}
+
 /// How full the slabs of a class are.
 #[derive(Clone, Copy, Debug, PartialEq, Eq)]
 pub struct ClassFill {
@@ -9,13 +18,15 @@ pub struct ClassFill {
     pub slabs: u32,
     /// Blocks of the class that live in them.
     pub live: u32,
-    /// Blocks of the class that live in slabs that took another class.
+    /// Blocks of the class that live in slabs of another class.
     pub old: u32,
 }
 
 /// How many there are of what the tables of an arena say.
 #[derive(Clone, Copy, Debug, PartialEq, Eq)]
 pub struct Facts {
+    /// The variant of the arena.
+    pub variant: Variant,
     /// The version of the layout.
     pub version: u32,
     /// Granules of the arena.
@@ -24,7 +35,8 @@ pub struct Facts {
     pub free: u32,
     /// The most of them in a row.
     pub longest: u32,
-    /// Slabs that are taking another class, or took one and are not normal yet.
+    /// Slabs in transition: in the LOG variant those that are taking another class, or took one and are not normal yet; in the
+    /// other those with blocks of another class than theirs.
     pub transitions: u32,
     /// Live large extents, live slabs, roots that hold a block, and loose things.
     pub summary: Summary,

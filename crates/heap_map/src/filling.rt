@@ -1,17 +1,18 @@
 // How many blocks live in a slab.
-ghost use Rattle.std.specs.Prelude.{◌≡◌, ◌↔◌, ◌<◌, ◌≤◌, true, IsTrue};
-ghost use Rattle.size_classes.specs.Classes.{class_capacity};
-ghost use Rattle.image_tables.specs.Forms.{morphing_kind};
+ghost use Rattle.std.specs.Prelude.{◌≡◌, ◌≢◌, ◌↔◌, ◌+◌, ◌*◌, ◌<◌, ◌≤◌, true, IsTrue};
+ghost use Rattle.size_classes.specs.Classes.{class_size, class_capacity};
+ghost use Rattle.image_tables.specs.Forms.{normal_kind, morphing_kind};
 ghost use Rattle.image_tables.specs.Tables.{tables_of};
-ghost use Rattle.slab_header.specs.State.{class_of, entries_of};
+ghost use Rattle.slab_header.specs.State.{kind_of, class_of, old_of, entries_of, IsValidState};
 ghost use Rattle.image_defects.specs.Count.{IsCount};
 ghost use Rattle.image_reading.specs.Slabs.{IsSlabAt, IsRead};
+ghost use Rattle.heap_map.specs.LogRules.{log_rules};
 ghost use Rattle.heap_map.specs.Cells.{IsSetBit, IsLivePlace, IsLiveCount, IsOldCount, IsSlabFill};
 
 use crate::cell::SlabFill;
 use defect_search::counted;
 use image_reading::{Slab, bit_at, live_at};
-use size_classes::capacity;
+use size_classes::{capacity, size_of_class};
 use slab_header::SlabState;
 
 // How many blocks of a slab have their bits set, of so many.
@@ -68,15 +69,52 @@ fn old_of(words: &[u64], slab: Slab) -> u32
     }
 }
 
+// Bytes of so many blocks of the class of a slab, and so many of the class before.
+fn bytes_of(state: SlabState, live: u32, old: u32) -> u32
+    requires valid { IsValidState state }
+    requires live { live ≤ 4096 }
+    requires old { old ≤ 64 }
+    ensures { result ≡ live * class_size (class_of state) + old * class_size (old_of state) }
+{
+    match state {
+        SlabState::Normal { class } => live * size_of_class(class) + old * size_of_class(0),
+        SlabState::Morphing {
+            class,
+            old: was,
+            ..
+        } => live * size_of_class(class) + old * size_of_class(was),
+        SlabState::Morphed {
+            class,
+            old: was,
+            ..
+        } => live * size_of_class(class) + old * size_of_class(was),
+    }
+}
+
+// The slab is in transition.
+fn is_turning(state: SlabState) -> bool
+    ensures { IsTrue result ↔ (kind_of state ≢ normal_kind) }
+{
+    match state {
+        SlabState::Normal { .. } => false,
+        SlabState::Morphing { .. } => true,
+        SlabState::Morphed { .. } => true,
+    }
+}
+
 /// A slab that was read, with how many blocks live in it.
 pub(crate) fn fill_of(words: &[u64], slab: Slab) -> SlabFill
     requires { IsRead words.now slab }
     ensures slab { result.slab ≡ slab }
-    ensures fill { IsSlabFill (tables_of words.now) result }
+    ensures fill { IsSlabFill log_rules words.now result }
 {
+    let live = live_of(words, slab);
+    let old = old_of(words, slab);
     SlabFill {
         slab,
-        live: live_of(words, slab),
-        old: old_of(words, slab),
+        live,
+        old,
+        bytes: bytes_of(slab.state, live, old),
+        turns: is_turning(slab.state),
     }
 }

@@ -18,8 +18,12 @@ mod mapping;
 mod reading;
 mod runs;
 mod scanning;
+mod turning;
 
 pub use block::{RootBlock, block_of};
 pub use cell::{Cell, Kind, SlabFill};
-pub use facts::{ClassFill, Facts};
+pub use facts::{ClassFill, Facts, Variant};
 pub use mapping::{HeapMap, map_of};
+pub use runs::{FreeCounts, free_counts};
+pub use scanning::{Scan, version_of};
+pub use turning::count_transitions;

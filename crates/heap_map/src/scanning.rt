@@ -4,6 +4,7 @@ ghost use Rattle.pool_layout.specs.Layout.{layout_of};
 ghost use Rattle.pool_layout.specs.Header.{version_in, granules_in};
 ghost use Rattle.image_tables.specs.Tables.{tables_of};
 ghost use Rattle.heap_check.specs.Sound.{granules_at};
+ghost use Rattle.heap_map.specs.LogRules.{log_rules};
 ghost use Rattle.heap_map.specs.Cells.{IsLooseSlab, IsCell, AreCells};
 ghost use Rattle.heap_map.specs.Scans.{IsReading, IsExtentCell, IsScan};
 
@@ -16,15 +17,15 @@ use pmem_lines::OutOfMemory;
 use pool_layout::{Layout, fields_at, layout_of};
 use std::alloc::Global;
 
-// How far the granules were gone through: the cell of the extent that began last, and the granule behind it.
+/// How far the granules were gone through: the cell of the extent that began last, and the granule behind it.
 #[derive(Clone, Copy)]
-struct Scan {
-    cell: Cell,
-    end: u32,
+pub struct Scan {
+    pub cell: Cell,
+    pub end: u32,
 }
 
 /// The version of an arena of these words.
-pub(crate) fn version_of(words: &[u64]) -> u32
+pub fn version_of(words: &[u64]) -> u32
     requires { 1 < length words.now }
     ensures { result ≡ version_in words.now }
 {
@@ -45,7 +46,7 @@ fn is_loose_slab(words: &[u64], reading: &Reading, start: u32) -> bool
 fn slab_cell(words: &[u64], reading: &Reading, start: u32) -> Cell
     requires reading { IsReading words.now reading.now }
     requires slab { (tables_of words.now).slab start ≡ true }
-    ensures { IsExtentCell words.now start result }
+    ensures { IsExtentCell log_rules words.now start result }
 {
     let slab = read_slab(words, start);
     Cell {
@@ -60,7 +61,7 @@ fn slab_cell(words: &[u64], reading: &Reading, start: u32) -> Cell
 fn large_cell(words: &[u64], reading: &Reading, start: u32) -> Cell
     requires reading { IsReading words.now reading.now }
     requires large { 0 < (tables_of words.now).large start }
-    ensures { IsExtentCell words.now start result }
+    ensures { IsExtentCell log_rules words.now start result }
 {
     Cell {
         kind: Kind::Large { start },
@@ -72,7 +73,7 @@ fn large_cell(words: &[u64], reading: &Reading, start: u32) -> Cell
 fn extent_cell(words: &[u64], reading: &Reading, start: u32) -> Cell
     requires reading { IsReading words.now reading.now }
     requires live { 0 < granules_at (tables_of words.now) start }
-    ensures { IsExtentCell words.now start result }
+    ensures { IsExtentCell log_rules words.now start result }
 {
     if is_slab(&reading.log, start) {
         slab_cell(words, reading, start)
@@ -84,8 +85,8 @@ fn extent_cell(words: &[u64], reading: &Reading, start: u32) -> Cell
 // Goes over one granule more.
 fn step(words: &[u64], reading: &Reading, scan: Scan, granule: u32) -> Scan
     requires reading { IsReading words.now reading.now }
-    requires scan { IsScan words.now granule scan }
-    ensures { IsScan words.now (granule + 1) result }
+    requires scan { IsScan log_rules words.now granule scan }
+    ensures { IsScan log_rules words.now (granule + 1) result }
 {
     let granules = granules_at(&reading.log, granule);
     if granules == 0 {
@@ -102,7 +103,7 @@ fn own_cell(words: &[u64], reading: &Reading, layout: &Layout, granule: u32) -> 
     requires reading { IsReading words.now reading.now }
     requires layout { layout.now ≡ layout_of (version_in words.now) }
     requires before { granule < (layout_of (version_in words.now)).first_granule }
-    ensures { IsCell words.now granule result }
+    ensures { IsCell log_rules words.now granule result }
 {
     if granule == 0 {
         return Cell {
@@ -120,10 +121,10 @@ fn own_cell(words: &[u64], reading: &Reading, layout: &Layout, granule: u32) -> 
 
 // The cell of a granule of the heap, once it was gone over.
 fn heap_cell(words: &[u64], scan: Scan, granule: u32) -> Cell
-    requires scan { IsScan words.now (granule + 1) scan }
+    requires scan { IsScan log_rules words.now (granule + 1) scan }
     requires heap { (layout_of (version_in words.now)).first_granule ≤ granule }
     requires inside { granule < granules_in words.now }
-    ensures { IsCell words.now granule result }
+    ensures { IsCell log_rules words.now granule result }
 {
     if granule < scan.end {
         return scan.cell;
@@ -138,9 +139,9 @@ fn heap_cell(words: &[u64], scan: Scan, granule: u32) -> Cell
 fn cell_of(words: &[u64], reading: &Reading, layout: &Layout, scan: Scan, granule: u32) -> Cell
     requires reading { IsReading words.now reading.now }
     requires layout { layout.now ≡ layout_of (version_in words.now) }
-    requires scan { IsScan words.now (granule + 1) scan }
+    requires scan { IsScan log_rules words.now (granule + 1) scan }
     requires inside { granule < granules_in words.now }
-    ensures { IsCell words.now granule result }
+    ensures { IsCell log_rules words.now granule result }
 {
     if granule < layout.first_granule {
         own_cell(words, reading, layout, granule)
@@ -156,7 +157,7 @@ pub(crate) fn cells_of(
     reading: &Reading,
 ) -> Result<Vec<Cell>, OutOfMemory>
     requires { IsReading words.now reading.now }
-    ensures { IfOk result (λ cells. AreCells words.now cells.items) }
+    ensures { IfOk result (λ cells. AreCells log_rules words.now cells.items) }
 {
     let layout = layout_of(version_of(words));
     let mut cells = Vec::with_capacity(alloc, reading.log.granules() as usize)?;

@@ -1,10 +1,12 @@
 -- The picture of an arena: a heading, the granules, and how full the slabs of each class are.
 use Rattle.std.specs.Prelude.{◌≡◌, ◌↔◌, ℕ, ◌+◌, ◌*◌, ◌/◌, ◌%◌, ◌==◌, ◌&&◌, List, [], ◌∷◌, ◌++◌, decimal, codes, if◌then◌else◌}
 use Rattle.size_classes.specs.Classes.{class_size, class_capacity}
-use Rattle.heap_check.specs.Image.{IsSoundImage, IsExactImage}
 use Rattle.heap_map.specs.declared.cell.Cell.{Cell}
 use Rattle.heap_map.specs.declared.facts.ClassFill.{ClassFill}
 use Rattle.heap_map.specs.declared.facts.Facts.{Facts}
+use Rattle.heap_map.specs.declared.facts.Variant.{Variant}
+use Rattle.heap_map.specs.declared.facts.Variant.TheVariants.{Log, Gc}
+use Rattle.heap_map.specs.Rules.{MapRules}
 use Rattle.heap_map.specs.Cells.{AreCells, AreNoneLoose}
 use Rattle.heap_map.specs.Facts.{fill_in, AreFacts, AreClassFills}
 use Rattle.map_text.specs.Pieces.{text_below}
@@ -19,10 +21,15 @@ rows_of granules = (granules + 63) / 64
 abbrev pub arena_height : ℕ → ℕ
 arena_height granules = 20 * rows_of granules + 290
 
+-- which variant an arena is of, where that is not the LOG variant
+abbrev pub variant_words : Variant → List ℕ
+variant_words Log = []
+variant_words Gc = codes ", GC variant"
+
 -- the heading
 unfoldable pub heading : ℕ → Facts → List ℕ
 heading arena facts =
-    line_begin 0 14 ++ codes "arena " ++ decimal arena ++ codes ": version " ++ decimal facts.version ++ codes "; granules: " ++ decimal facts.granules ++ codes ", free: " ++ decimal facts.free
+    line_begin 0 14 ++ codes "arena " ++ decimal arena ++ variant_words facts.variant ++ codes ": version " ++ decimal facts.version ++ codes "; granules: " ++ decimal facts.granules ++ codes ", free: " ++ decimal facts.free
     ++ codes ", longest row of free ones: " ++ decimal facts.longest ++ codes "; largest request of whole granules: " ++ decimal (request_of facts.longest) ++ codes " bytes" ++ line_end
 
 unfoldable pub counts : Facts → List ℕ
@@ -64,13 +71,13 @@ arena_picture arena y cells facts fills = place y ++ heading arena facts ++ coun
 
 -- The arena is sound, and the text is its picture at a height: a box over each granule says what it is, and some granule has the
 -- frame of what is loose exactly where the arena is not exact.
-pub record IsPicture (y : ℕ) (words : List ℕ) (arena : ℕ) (text : List ℕ) : Type 0 where
-  pub sound : IsSoundImage words
+pub record IsPicture (r : MapRules) (y : ℕ) (words : List ℕ) (arena : ℕ) (text : List ℕ) : Type 0 where
+  pub sound : r.IsSound words
   pub cells : List Cell
-  pub each : AreCells words cells
-  pub exact : AreNoneLoose cells ↔ IsExactImage words
+  pub each : AreCells r words cells
+  pub exact : AreNoneLoose cells ↔ r.IsExact words
   pub facts : Facts
-  pub are : AreFacts words facts
+  pub are : AreFacts r words facts
   pub fills : List ClassFill
-  pub full : AreClassFills words fills
+  pub full : AreClassFills r words fills
   pub is : text ≡ arena_picture arena y cells facts fills

@@ -1,8 +1,6 @@
 -- The granules of an arena as boxes, 64 a row, each of 16 by 18 units in a field of 16 by 20.
-use Rattle.std.specs.Prelude.{ℕ, ◌+◌, ◌-◌, ◌*◌, ◌/◌, ◌%◌, ◌==◌, Bool, true, false, List, [], ◌++◌, length, decimal, codes, if◌then◌else◌}
+use Rattle.std.specs.Prelude.{ℕ, ◌+◌, ◌-◌, ◌*◌, ◌/◌, ◌%◌, ◌==◌, Bool, false, List, [], ◌++◌, length, decimal, codes, if◌then◌else◌}
 use Rattle.size_classes.specs.Classes.{class_size}
-use Rattle.slab_header.specs.declared.state.SlabState.{SlabState}
-use Rattle.slab_header.specs.declared.state.SlabState.TheVariants.{Normal, Morphing, Morphed}
 use Rattle.slab_header.specs.State.{class_of}
 use Rattle.heap_map.specs.declared.cell.SlabFill.{SlabFill}
 use Rattle.heap_map.specs.declared.cell.Kind.{Kind}
@@ -52,14 +50,9 @@ begins_at k (Large start) = start == k
 begins_at k (Slab fill) = fill.slab.start == k
 begins_at k kind = false
 
-abbrev pub is_turning : SlabState → Bool
-is_turning (Normal class) = false
-is_turning (Morphing class old entries) = true
-is_turning (Morphed class old entries) = true
-
 -- the hatching of a slab in transition
 abbrev pub hatch : ℕ → SlabFill → List ℕ
-hatch k fill = if is_turning fill.slab.state then whole_box hatch_tone k else []
+hatch k fill = if fill.turns then whole_box hatch_tone k else []
 
 -- the bar of what lives in a slab: two units for each tenth
 abbrev pub bar : ℕ → SlabFill → List ℕ

@@ -1,15 +1,12 @@
 // The picture of an arena.
-ghost use Rattle.std.specs.Prelude.{◌≡◌, ◌↔◌, ◌<◌, ◌≤◌, ◌++◌, ◌^◌, length, OnOk};
-ghost use Rattle.heap_check.specs.Image.{IsSoundImage, IsExactImage};
-ghost use Rattle.heap_map.specs.Cells.{AreCells, AreNoneLoose};
-ghost use Rattle.heap_map.specs.Facts.{AreFacts, AreClassFills};
-ghost use Rattle.map_text.specs.Pieces.{Adds};
+ghost use Rattle.std.specs.Prelude.{◌≡◌, ◌<◌, ◌≤◌, ◌++◌, ◌^◌, length, OnOk};
 ghost use Rattle.map_text.specs.Drawing.{HaveClasses};
-ghost use Rattle.map_svg.specs.Arenas.{rows_of, arena_height, heading, counts, class_words, class_entry, class_entries, place, place_end, arena_picture, IsPicture};
+ghost use Rattle.map_text.specs.Maps.{IsWritable};
+ghost use Rattle.map_svg.specs.Arenas.{rows_of, arena_height, variant_words, heading, counts, class_words, class_entry, class_entries, place, place_end, arena_picture};
 
 use crate::cells::{write_cells, write_labels};
 use crate::shapes::{Shape, begin_line, end_line, write_box};
-use heap_map::{Cell, ClassFill, Facts, HeapMap};
+use heap_map::{Cell, ClassFill, Facts, HeapMap, Variant};
 use map_text::request_of;
 use pmem_lines::OutOfMemory;
 use size_classes::{capacity, size_of_class};
@@ -34,6 +31,16 @@ fn rows_of(granules: u32) -> u32
     (granules + 63) / 64
 }
 
+// Writes which variant an arena is of, where that is not the LOG variant.
+fn write_variant(out: &mut Vec<u8>, variant: Variant) -> Result<(), OutOfMemory>
+    ensures { OnOk result (out.new.items ≡ out.old.items ++ variant_words variant) }
+{
+    match variant {
+        Variant::Log => Ok(()),
+        Variant::Gc => write_bytes(out, b", GC variant"),
+    }
+}
+
 // Writes the heading.
 #[tactic(auto, unfolding(crate::specs::Arenas::heading))]
 fn write_heading(out: &mut Vec<u8>, arena: u32, facts: &Facts) -> Result<(), OutOfMemory>
@@ -41,6 +48,7 @@ fn write_heading(out: &mut Vec<u8>, arena: u32, facts: &Facts) -> Result<(), Out
 {
     begin_line(out, 0, 14)?;
     write_word(out, b"arena ", u64::from(arena))?;
+    write_variant(out, facts.variant)?;
     write_word(out, b": version ", u64::from(facts.version))?;
     write_word(out, b"; granules: ", u64::from(facts.granules))?;
     write_word(out, b", free: ", u64::from(facts.free))?;
@@ -169,21 +177,15 @@ fn write_arena(
     write_bytes(out, b"</g>\n")
 }
 
-/// Writes the picture of a sound arena of these words behind what stands in `out`, by its map, so many units below the top of
-/// the page.
+/// Writes the picture of an arena behind what stands in `out`, by its map, so many units below the top of the page.
 pub fn write_picture(
     out: &mut Vec<u8>,
-    words: &[u64],
     arena: u32,
     y: u32,
     map: &HeapMap,
 ) -> Result<(), OutOfMemory>
-    requires sound { IsSoundImage words.now }
-    requires cells { AreCells words.now map.now.cells.items }
-    requires exact { AreNoneLoose map.now.cells.items ↔ IsExactImage words.now }
-    requires facts { AreFacts words.now map.now.facts }
-    requires classes { AreClassFills words.now map.now.classes.items }
-    ensures { OnOk result (Adds (IsPicture y words.now arena) out.old.items out.new.items) }
+    requires { IsWritable map.now }
+    ensures { OnOk result (out.new.items ≡ out.old.items ++ arena_picture arena y map.now.cells.items map.now.facts map.now.classes.items) }
 {
     write_arena(out, arena, y, &map.cells, &map.facts, &map.classes)
 }

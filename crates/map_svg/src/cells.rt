@@ -1,8 +1,8 @@
 // The granules of an arena as boxes.
 ghost use Rattle.std.specs.Prelude.{◌≡◌, ◌+◌, ◌≤◌, ◌<◌, ◌++◌, length, OnOk};
 ghost use Rattle.slab_header.specs.State.{class_of};
-ghost use Rattle.map_text.specs.Drawing.{AreClasses, HasClasses, HaveClasses};
-ghost use Rattle.map_svg.specs.Cells.{tone_of, begins_at, is_turning, whole_box, hatch, bar, slab_marks, edge, label, large_label, slab_label, kind_label, frame, cell_boxes, row_of_boxes, row_of_labels};
+ghost use Rattle.map_text.specs.Drawing.{HasSlabClass, HasClass, HaveClasses};
+ghost use Rattle.map_svg.specs.Cells.{tone_of, begins_at, whole_box, hatch, bar, slab_marks, edge, label, large_label, slab_label, kind_label, frame, cell_boxes, row_of_boxes, row_of_labels};
 
 use crate::shapes::{Shape, begin_label, end_line, write_box};
 use heap_map::{Cell, Kind, SlabFill};
@@ -20,17 +20,6 @@ fn class_of(state: SlabState) -> u8
         SlabState::Normal { class } => class,
         SlabState::Morphing { class, .. } => class,
         SlabState::Morphed { class, .. } => class,
-    }
-}
-
-// A slab is in transition.
-fn is_turning(state: SlabState) -> bool
-    ensures { result ≡ is_turning state }
-{
-    match state {
-        SlabState::Normal { .. } => false,
-        SlabState::Morphing { .. } => true,
-        SlabState::Morphed { .. } => true,
     }
 }
 
@@ -81,7 +70,7 @@ fn write_hatch(out: &mut Vec<u8>, granule: u32, fill: &SlabFill) -> Result<(), O
     requires { granule < 4096 }
     ensures { OnOk result (out.new.items ≡ out.old.items ++ hatch granule fill.now) }
 {
-    if !is_turning(fill.slab.state) {
+    if !fill.turns {
         return Ok(());
     }
     write_whole(out, 41, granule)
@@ -90,7 +79,7 @@ fn write_hatch(out: &mut Vec<u8>, granule: u32, fill: &SlabFill) -> Result<(), O
 // Writes the bar of what lives in a slab.
 fn write_bar(out: &mut Vec<u8>, granule: u32, fill: &SlabFill) -> Result<(), OutOfMemory>
     requires granule { granule < 4096 }
-    requires classes { AreClasses fill.now.slab.state }
+    requires classes { HasSlabClass fill.now }
     ensures { OnOk result (out.new.items ≡ out.old.items ++ bar granule fill.now) }
 {
     let tenths = u32::from(tenths_of(fill));
@@ -112,7 +101,7 @@ fn write_bar(out: &mut Vec<u8>, granule: u32, fill: &SlabFill) -> Result<(), Out
 // Writes what a slab has besides.
 fn write_marks(out: &mut Vec<u8>, granule: u32, cell: Cell) -> Result<(), OutOfMemory>
     requires granule { granule < 4096 }
-    requires classes { HasClasses cell }
+    requires classes { HasClass cell }
     ensures { OnOk result (out.new.items ≡ out.old.items ++ slab_marks granule cell.kind) }
 {
     match cell.kind {
@@ -168,7 +157,7 @@ fn write_large_label(out: &mut Vec<u8>, granule: u32, start: u32) -> Result<(), 
 // Writes the label of the granule that a slab begins at: the size of its blocks.
 fn write_slab_label(out: &mut Vec<u8>, granule: u32, fill: &SlabFill) -> Result<(), OutOfMemory>
     requires granule { granule < 4096 }
-    requires classes { AreClasses fill.now.slab.state }
+    requires classes { HasSlabClass fill.now }
     ensures { OnOk result (out.new.items ≡ out.old.items ++ slab_label granule fill.now) }
 {
     if fill.slab.start != granule {
@@ -183,7 +172,7 @@ fn write_slab_label(out: &mut Vec<u8>, granule: u32, fill: &SlabFill) -> Result<
 // Writes the label of a granule, if it has one.
 fn write_kind_label(out: &mut Vec<u8>, granule: u32, cell: Cell) -> Result<(), OutOfMemory>
     requires granule { granule < 4096 }
-    requires classes { HasClasses cell }
+    requires classes { HasClass cell }
     ensures { OnOk result (out.new.items ≡ out.old.items ++ kind_label granule cell.kind) }
 {
     match cell.kind {
@@ -211,7 +200,7 @@ fn write_frame(out: &mut Vec<u8>, granule: u32, loose: bool) -> Result<(), OutOf
 #[tactic(auto, unfolding(crate::specs::Cells::cell_boxes))]
 fn write_cell(out: &mut Vec<u8>, granule: u32, cell: Cell) -> Result<(), OutOfMemory>
     requires granule { granule < 4096 }
-    requires classes { HasClasses cell }
+    requires classes { HasClass cell }
     ensures { OnOk result (out.new.items ≡ out.old.items ++ cell_boxes granule cell) }
 {
     write_whole(out, tone_of(cell.kind), granule)?;

@@ -1,9 +1,7 @@
 -- The granules of an arena as letters, 64 a line.
 use Rattle.std.specs.Prelude.{ℕ, ◌+◌, ◌*◌, ◌/◌, ◌%◌, ◌<◌, ◌==◌, nat_lt, Bool, List, [], ◌∷◌, ◌++◌, length, min, decimal, codes, if◌then◌else◌}
 use Rattle.size_classes.specs.Classes.{class_size, class_capacity}
-use Rattle.slab_header.specs.declared.state.SlabState.{SlabState}
-use Rattle.slab_header.specs.declared.state.SlabState.TheVariants.{Normal, Morphing, Morphed}
-use Rattle.slab_header.specs.State.{class_of, old_of}
+use Rattle.slab_header.specs.State.{class_of}
 use Rattle.heap_map.specs.declared.cell.SlabFill.{SlabFill}
 use Rattle.heap_map.specs.declared.cell.Kind.{Kind}
 use Rattle.heap_map.specs.declared.cell.Kind.TheVariants.{Header, Roots, Log, Free, Large, Slab}
@@ -18,13 +16,11 @@ legend_line = codes "h header, r roots, l log, . free, #= large block, S7 slab a
 -- how many tenths of the bytes of a slab's blocks live, 9 at most
 abbrev pub tenths_of : SlabFill → ℕ
 tenths_of fill =
-    min 9 (10 * (fill.live * class_size (class_of fill.slab.state) + fill.old * class_size (old_of fill.slab.state)) / (class_capacity (class_of fill.slab.state) * class_size (class_of fill.slab.state)))
+    min 9 (10 * fill.bytes / (class_capacity (class_of fill.slab.state) * class_size (class_of fill.slab.state)))
 
--- the first letter of a slab
-abbrev pub state_letter : SlabState → ℕ
-state_letter (Normal class) = 83
-state_letter (Morphing class old entries) = 84
-state_letter (Morphed class old entries) = 84
+-- the first letter of a slab, which is in transition or not
+abbrev pub slab_letter : Bool → ℕ
+slab_letter turns = if turns then 84 else 83
 
 -- the letter of a granule that a thing begins at: what is loose has its own
 abbrev pub first_letter : Bool → ℕ → ℕ
@@ -37,7 +33,7 @@ kind_letter k loose Roots = 114
 kind_letter k loose Log = 108
 kind_letter k loose Free = 46
 kind_letter k loose (Large start) = if start == k then first_letter loose 35 else 61
-kind_letter k loose (Slab fill) = if fill.slab.start == k then first_letter loose (state_letter fill.slab.state) else (48 + tenths_of fill)
+kind_letter k loose (Slab fill) = if fill.slab.start == k then first_letter loose (slab_letter fill.turns) else (48 + tenths_of fill)
 
 abbrev pub letter_of : ℕ → Cell → ℕ
 letter_of k cell = kind_letter k cell.loose cell.kind
@@ -60,18 +56,18 @@ drawing cells = text_below (λ k. gap_before k ++ letter_of k (cell_in cells k) 
 
 -- for the functions below
 
--- both classes of a slab are classes
-abbrev pub AreClasses : SlabState → Type 0
-AreClasses state = (class_of state < 36) × (old_of state < 36)
+-- a slab has one of the classes
+abbrev pub HasSlabClass : SlabFill → Type 0
+HasSlabClass fill = class_of fill.slab.state < 36
 
--- those of a cell's slab are, if it has one
-abbrev pub HasKindClasses : Kind → Type 0
-HasKindClasses (Slab fill) = AreClasses fill.slab.state
-HasKindClasses kind = Unit {0}
+-- that of a cell has, if it has one
+abbrev pub HasKindClass : Kind → Type 0
+HasKindClass (Slab fill) = HasSlabClass fill
+HasKindClass kind = Unit {0}
 
-abbrev pub HasClasses : Cell → Type 0
-HasClasses cell = HasKindClasses cell.kind
+abbrev pub HasClass : Cell → Type 0
+HasClass cell = HasKindClass cell.kind
 
--- those of each cell are
+-- that of each cell has
 pub record HaveClasses (cells : List Cell) : Type 0 where
-  pub each : (k : ℕ) → k < length cells → HasClasses (cell_in cells k)
+  pub each : (k : ℕ) → k < length cells → HasClass (cell_in cells k)

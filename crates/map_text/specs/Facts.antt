@@ -3,6 +3,8 @@ use Rattle.std.specs.Prelude.{ℕ, ◌*◌, ◌==◌, ◌&&◌, nat_lt, List, []
 use Rattle.size_classes.specs.Classes.{class_size, class_capacity}
 use Rattle.heap_map.specs.declared.facts.ClassFill.{ClassFill}
 use Rattle.heap_map.specs.declared.facts.Facts.{Facts}
+use Rattle.heap_map.specs.declared.facts.Variant.{Variant}
+use Rattle.heap_map.specs.declared.facts.Variant.TheVariants.{Log, Gc}
 use Rattle.heap_map.specs.Facts.{fill_in}
 use Rattle.map_text.specs.Pieces.{text_below}
 
@@ -37,6 +39,15 @@ extent_lines arena facts =
 unfoldable pub class_lines : ℕ → List ClassFill → List ℕ
 class_lines arena fills = text_below (λ class. class_line arena class (fill_in fills class)) 36
 
+-- what is said of an arena in words
+unfoldable pub word_line : ℕ → List ℕ → List ℕ
+word_line arena says = codes "arena " ++ decimal arena ++ says ++ 10 ∷ []
+
+-- which variant it is of, where that is not the LOG variant
+abbrev pub variant_line : ℕ → Variant → List ℕ
+variant_line arena Log = []
+variant_line arena Gc = word_line arena (codes " variant gc")
+
 -- all of it
 abbrev pub facts_text : ℕ → Facts → List ClassFill → List ℕ
-facts_text arena facts fills = granule_lines arena facts ++ extent_lines arena facts ++ class_lines arena fills
+facts_text arena facts fills = variant_line arena facts.variant ++ granule_lines arena facts ++ extent_lines arena facts ++ class_lines arena fills

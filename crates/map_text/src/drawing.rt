@@ -1,8 +1,8 @@
 // The granules of an arena as letters.
 ghost use Rattle.std.specs.Prelude.{◌≡◌, [], ◌∷◌, ◌+◌, ◌*◌, ◌<◌, ◌≤◌, ◌^◌, ◌++◌, length, OnOk};
-ghost use Rattle.slab_header.specs.State.{class_of, old_of};
+ghost use Rattle.slab_header.specs.State.{class_of};
 ghost use Rattle.heap_map.specs.Cells.{cell_in};
-ghost use Rattle.map_text.specs.Drawing.{legend_line, tenths_of, state_letter, first_letter, kind_letter, letter_of, padded, gap_before, gap_behind, drawing, HasClasses, HaveClasses};
+ghost use Rattle.map_text.specs.Drawing.{legend_line, tenths_of, slab_letter, first_letter, kind_letter, letter_of, padded, gap_before, gap_behind, drawing, HasSlabClass, HasClass, HaveClasses};
 
 use heap_map::{Cell, Kind, SlabFill};
 use pmem_lines::OutOfMemory;
@@ -20,7 +20,7 @@ pub fn write_legend(out: &mut Vec<u8>) -> Result<(), OutOfMemory>
     )
 }
 
-// The class of a slab, and the class before, 0 where it had none.
+// The class of a slab.
 fn class_of(state: SlabState) -> u8
     ensures { result ≡ class_of state }
 {
@@ -31,39 +31,23 @@ fn class_of(state: SlabState) -> u8
     }
 }
 
-fn old_of(state: SlabState) -> u8
-    ensures { result ≡ old_of state }
-{
-    match state {
-        SlabState::Normal { .. } => 0,
-        SlabState::Morphing { old, .. } => old,
-        SlabState::Morphed { old, .. } => old,
-    }
-}
-
 /// How many tenths of the bytes of a slab's blocks live, 9 at most.
 pub fn tenths_of(fill: &SlabFill) -> u8
-    requires class { class_of fill.now.slab.state < 36 }
-    requires old { old_of fill.now.slab.state < 36 }
+    requires { HasSlabClass fill.now }
     ensures tenths { result ≡ tenths_of fill.now }
     ensures most { result ≤ 9 }
 {
-    let class = class_of(fill.slab.state);
-    let size = u64::from(size_of_class(class));
-    let old_size = u64::from(size_of_class(old_of(fill.slab.state)));
-    let live = u64::from(fill.live) * size + u64::from(fill.old) * old_size;
-    (10 * live / (u64::from(capacity(class)) * size)).min(9) as u8
+    let SlabFill { slab, bytes, .. } = *fill;
+    let class = class_of(slab.state);
+    let whole = u64::from(capacity(class)) * u64::from(size_of_class(class));
+    (10 * u64::from(bytes) / whole).min(9) as u8
 }
 
-// The first letter of a slab.
-fn state_letter(state: SlabState) -> u8
-    ensures { result ≡ state_letter state }
+// The first letter of a slab, which is in transition or not.
+fn slab_letter(turns: bool) -> u8
+    ensures { result ≡ slab_letter turns }
 {
-    match state {
-        SlabState::Normal { .. } => b'S',
-        SlabState::Morphing { .. } => b'T',
-        SlabState::Morphed { .. } => b'T',
-    }
+    if turns { b'T' } else { b'S' }
 }
 
 // The letter of a granule that a thing begins at: what is loose has its own.
@@ -74,13 +58,12 @@ fn first_letter(loose: bool, letter: u8) -> u8
 }
 
 // The letter of a granule in a slab.
-fn slab_letter(granule: u32, loose: bool, fill: SlabFill) -> u8
-    requires class { class_of fill.slab.state < 36 }
-    requires old { old_of fill.slab.state < 36 }
+fn letter_in_slab(granule: u32, loose: bool, fill: SlabFill) -> u8
+    requires { HasSlabClass fill }
     ensures { result ≡ kind_letter granule loose (Kind.Slab fill) }
 {
     if fill.slab.start == granule {
-        first_letter(loose, state_letter(fill.slab.state))
+        first_letter(loose, slab_letter(fill.turns))
     } else {
         b'0' + tenths_of(&fill)
     }
@@ -88,7 +71,7 @@ fn slab_letter(granule: u32, loose: bool, fill: SlabFill) -> u8
 
 // The letter of a granule.
 fn letter_of(granule: u32, cell: Cell) -> u8
-    requires { HasClasses cell }
+    requires { HasClass cell }
     ensures { result ≡ letter_of granule cell }
 {
     match cell.kind {
@@ -103,7 +86,7 @@ fn letter_of(granule: u32, cell: Cell) -> u8
                 b'='
             }
         }
-        Kind::Slab { fill } => slab_letter(granule, cell.loose, fill),
+        Kind::Slab { fill } => letter_in_slab(granule, cell.loose, fill),
     }
 }
 
@@ -149,7 +132,7 @@ fn write_behind(out: &mut Vec<u8>, granules: u32, granule: u32) -> Result<(), Ou
 // Writes the letter of a granule, with what stands around it.
 fn write_cell(out: &mut Vec<u8>, granules: u32, granule: u32, cell: Cell) -> Result<(), OutOfMemory>
     requires inside { granule < granules }
-    requires classes { HasClasses cell }
+    requires classes { HasClass cell }
     ensures { OnOk result (out.new.items ≡ out.old.items ++ (gap_before granule ++ letter_of granule cell ∷ gap_behind granules granule)) }
 {
     write_before(out, granule)?;

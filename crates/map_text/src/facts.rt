@@ -1,9 +1,9 @@
 // What is told of an arena in numbers.
 ghost use Rattle.std.specs.Prelude.{◌≡◌, [], ◌∷◌, ◌+◌, ◌*◌, ◌<◌, ◌≤◌, ◌^◌, ◌++◌, codes, decimal, length, OnOk};
 ghost use Rattle.size_classes.specs.Classes.{class_size, class_capacity};
-ghost use Rattle.map_text.specs.Facts.{request_of, fact_line, class_line, granule_lines, extent_lines, class_lines, facts_text};
+ghost use Rattle.map_text.specs.Facts.{request_of, fact_line, class_line, granule_lines, extent_lines, class_lines, word_line, variant_line, facts_text};
 
-use heap_map::{ClassFill, Facts};
+use heap_map::{ClassFill, Facts, Variant};
 use pmem_lines::OutOfMemory;
 use size_classes::{capacity, size_of_class};
 use trace_text::{write_bytes, write_word};
@@ -95,7 +95,28 @@ fn write_classes(out: &mut Vec<u8>, arena: u32, classes: &[ClassFill]) -> Result
     Ok(())
 }
 
-/// Writes what is told of an arena in numbers behind what stands in `out`, a line for each: the version, granules, those that
+// Writes what is said of an arena in words.
+#[tactic(auto, unfolding(crate::specs::Facts::word_line))]
+fn write_words(out: &mut Vec<u8>, arena: u32, says: &[u8]) -> Result<(), OutOfMemory>
+    ensures { OnOk result (out.new.items ≡ out.old.items ++ word_line arena says.now) }
+{
+    write_word(out, b"arena ", u64::from(arena))?;
+    write_bytes(out, says)?;
+    write_bytes(out, b"\n")
+}
+
+// Writes which variant an arena is of, where that is not the LOG variant.
+fn write_variant(out: &mut Vec<u8>, arena: u32, variant: Variant) -> Result<(), OutOfMemory>
+    ensures { OnOk result (out.new.items ≡ out.old.items ++ variant_line arena variant) }
+{
+    match variant {
+        Variant::Log => Ok(()),
+        Variant::Gc => write_words(out, arena, b" variant gc"),
+    }
+}
+
+/// Writes what is told of an arena in numbers behind what stands in `out`, a line for each: the variant, where it is not the LOG
+/// variant, the version, granules, those that
 /// are free and the most of them in a row, the largest request in bytes that is given whole granules, large extents, slabs,
 /// those in transition, roots that hold a block, loose things, and how full the slabs of each class are.
 pub(crate) fn write_facts(
@@ -107,6 +128,7 @@ pub(crate) fn write_facts(
     requires { length classes.now ≡ 36 }
     ensures { OnOk result (out.new.items ≡ out.old.items ++ facts_text arena facts.now classes.now) }
 {
+    write_variant(out, arena, facts.variant)?;
     write_granules(out, arena, facts)?;
     write_extents(out, arena, facts)?;
     write_classes(out, arena, classes)

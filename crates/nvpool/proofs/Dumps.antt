@@ -8,7 +8,7 @@ use Rattle.program_io.specs.declared.answer.Answer.{Answer}
 use Rattle.program_io.specs.declared.answer.Answer.TheVariants.{Output, FaultLine}
 use Rattle.nvpool.specs.declared.cause.Cause.{Cause}
 use Rattle.nvpool.specs.declared.cause.Cause.TheVariants.{Text, Image, NoArena, NoBlock}
-use Rattle.nvpool.specs.Dumping.{dumping, IsBlockDump, HasArena, RefusesDump, RefusesArena}
+use Rattle.nvpool.specs.Dumping.{log_dumping, IsBlockDump, HasArena, RefusesDump, RefusesArena}
 use Rattle.nvpool.specs.Ends.{IsAnswer, IsArenaAnswer, IsDumpAnswer, IsFaultLine}
 use Rattle.nvpool.proofs.Answering.{ok_more}
 use Rattle.nvpool.proofs.Aligned.{block_dump}
@@ -28,14 +28,14 @@ module _ (words own : List ℕ) (size arena root : ℕ) (header : PoolHeader) wh
   why_not input (NoBlock asked named) are whole pool inside part is = (is.0, is.1, has_arena input _ are whole pool inside part is.2)
   why_not input (Text refusal) are whole pool inside part is = absurd is
 
-  one_answer : (input : List ℕ) (answer : Answer) → AreWordsOf words size input → size ≡ 8 * length words → IsPoolImage words header → arena < header.arenas → own ≡ part_of words header.granules arena → IsArenaAnswer own arena root answer → IsAnswer (dumping arena root) input answer
+  one_answer : (input : List ℕ) (answer : Answer) → AreWordsOf words size input → size ≡ 8 * length words → IsPoolImage words header → arena < header.arenas → own ≡ part_of words header.granules arena → IsArenaAnswer own arena root answer → IsAnswer (log_dumping arena root) input answer
   one_answer input (Output text) are whole pool inside part is = has_arena input (λ ws. IsBlockDump ws root text.items) are whole pool inside part (block_dump own root text.items is)
   one_answer input (FaultLine text) are whole pool inside part is = record { why = is.why; cause = why_not input is.why are whole pool inside part is.cause; line = is.line }
 
   pub arena_answer : {E : Type 0} (result : Result Answer E) → size ≡ 8 * length words → IsPoolImage words header → arena < header.arenas → own ≡ part_of words header.granules arena → IfOk result (IsArenaAnswer own arena root) →
-      IfOk result (λ answer. (image : List ℕ) → AreWordsOf words size image → IsAnswer (dumping arena root) image answer)
+      IfOk result (λ answer. (image : List ℕ) → AreWordsOf words size image → IsAnswer (log_dumping arena root) image answer)
   arena_answer result whole pool inside part =
-      ok_more result (IsArenaAnswer own arena root) (λ answer. (image : List ℕ) → AreWordsOf words size image → IsAnswer (dumping arena root) image answer) (λ answer is image are. one_answer image answer are whole pool inside part is)
+      ok_more result (IsArenaAnswer own arena root) (λ answer. (image : List ℕ) → AreWordsOf words size image → IsAnswer (log_dumping arena root) image answer) (λ answer is image are. one_answer image answer are whole pool inside part is)
 
 -- the answers of an arena
 

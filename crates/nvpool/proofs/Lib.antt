@@ -1,10 +1,14 @@
 pub mod Images
+pub mod GcImages
 pub mod Refusals
 pub mod Table
 pub mod Answering
+pub mod Variants
 pub mod Endings
 pub mod Completeness
 pub mod Told
 pub mod Aligned
 pub mod Dumps
+pub mod GcDumps
+pub mod GcRepairs
 pub mod Cuts

@@ -8,6 +8,14 @@ use Rattle.nvpool.specs.declared.command.Command.{Command}
 use Rattle.nvpool.specs.declared.command.Command.TheVariants.{Map, Text, Info, Dump, Cut, Repair}
 use Rattle.nvpool.specs.Meaning.{Meaning}
 use Rattle.nvpool.specs.Command.{row_of, meaning_of, IsCommand, IsSaid}
+use Rattle.gc_pool.proofs.NoDefect.{text_of}
+use Rattle.nvpool.specs.declared.telling.Form.{Form}
+use Rattle.nvpool.specs.declared.telling.Form.TheVariants.{Numbers, Letters, Picture}
+use Rattle.nvpool.specs.Telling.{log_telling, gc_telling, telling}
+use Rattle.nvpool.specs.Dumping.{log_dumping, gc_dumping, dumping}
+use Rattle.nvpool.specs.Repairing.{log_repairing, gc_repairing, repairing}
+use Rattle.nvpool.proofs.Variants.{either_settled}
+use Rattle.nvpool.proofs.GcImages.{log_text, gc_image_not_refused, gc_dump_not_refused}
 use Rattle.nvpool.proofs.Refusals.{image_not_refused, dump_not_refused, cut_not_refused}
 
 -- a row for each command
@@ -36,13 +44,24 @@ back (Cut arena event seed) = refl
 back Repair = refl
 
 -- what a command accepts it does not refuse
+
+told_settled : (form : Form) (input : List ℕ) (why : Cause) → (telling form).accepts input → ¬ ((telling form).refuses input why)
+told_settled form = either_settled (log_telling form) (gc_telling form) image_not_refused gc_image_not_refused (λ input has. log_text input has.words has.image) (λ input has. text_of input has.words has.image)
+
+dump_settled : (arena root : ℕ) (input : List ℕ) (why : Cause) → (dumping arena root).accepts input → ¬ ((dumping arena root).refuses input why)
+dump_settled arena root =
+    either_settled (log_dumping arena root) (gc_dumping arena root) (dump_not_refused arena root) (gc_dump_not_refused arena root) (λ input has. log_text input has.words has.image) (λ input has. text_of input has.words has.image)
+
+repair_settled : (input : List ℕ) (why : Cause) → repairing.accepts input → ¬ (repairing.refuses input why)
+repair_settled = either_settled log_repairing gc_repairing image_not_refused gc_image_not_refused (λ input has. log_text input has.words has.image) (λ input has. text_of input has.words has.image)
+
 pub settled : (command : Command) (input : List ℕ) (why : Cause) → (meaning_of command).accepts input → ¬ ((meaning_of command).refuses input why)
-settled Map input why has = image_not_refused input why has
-settled Text input why has = image_not_refused input why has
-settled Info input why has = image_not_refused input why has
-settled (Dump arena root) input why has = dump_not_refused arena root input why has
+settled Map input why has = told_settled Picture input why has
+settled Text input why has = told_settled Letters input why has
+settled Info input why has = told_settled Numbers input why has
+settled (Dump arena root) input why has = dump_settled arena root input why has
 settled (Cut arena event seed) input why has = cut_not_refused arena event input why has
-settled Repair input why has = image_not_refused input why has
+settled Repair input why has = repair_settled input why has
 
 -- one command
 

@@ -11,8 +11,10 @@ use Rattle.nvpool.specs.declared.cause.Cause.{Cause}
 use Rattle.nvpool.specs.declared.cause.Cause.TheVariants.{Text}
 use Rattle.nvpool.specs.Causes.{cause_text}
 use Rattle.nvpool.specs.Meaning.{Meaning}
+use Rattle.heap_map.specs.LogRules.{log_rules}
+use Rattle.gc_map.specs.GcRules.{gc_rules}
 use Rattle.map_text.specs.Maps.{IsDump}
-use Rattle.nvpool.specs.Dumping.{RefusesArena}
+use Rattle.nvpool.specs.Dumping.{RefusesArena, RefusesGcArena}
 
 -- what the outside tells: the bytes that the source has left, and those that the sink took
 pub record Told : Type 0 where
@@ -80,7 +82,7 @@ IsBadLine IsRefused answer = (line : ℕ) × IsRefused line × IsFaultLine (Text
 
 -- what `dump` has to say of the words of an arena: those of the block of a root, or why there are none
 abbrev pub IsDumpAnswer : List ℕ → ℕ → Answer → Type 0
-IsDumpAnswer words root (Output text) = IsDump words root text.items
+IsDumpAnswer words root (Output text) = IsDump log_rules words root text.items
 IsDumpAnswer words root (FaultLine text) = ⊥
 
 pub record SaysWhyNot (words : List ℕ) (arena root : ℕ) (text : List ℕ) : Type 0 where
@@ -89,5 +91,19 @@ pub record SaysWhyNot (words : List ℕ) (arena root : ℕ) (text : List ℕ) : 
   pub line : text ≡ cause_text why
 
 abbrev pub IsArenaAnswer : List ℕ → ℕ → ℕ → Answer → Type 0
-IsArenaAnswer words arena root (Output text) = IsDump words root text.items
+IsArenaAnswer words arena root (Output text) = IsDump log_rules words root text.items
 IsArenaAnswer words arena root (FaultLine text) = SaysWhyNot words arena root text.items
+
+-- and of those of an arena of the GC variant
+abbrev pub IsGcDumpAnswer : List ℕ → ℕ → Answer → Type 0
+IsGcDumpAnswer words root (Output text) = IsDump gc_rules words root text.items
+IsGcDumpAnswer words root (FaultLine text) = ⊥
+
+pub record SaysWhyNotGc (words : List ℕ) (arena root : ℕ) (text : List ℕ) : Type 0 where
+  pub why : Cause
+  pub cause : RefusesGcArena words arena root why
+  pub line : text ≡ cause_text why
+
+abbrev pub IsGcArenaAnswer : List ℕ → ℕ → ℕ → Answer → Type 0
+IsGcArenaAnswer words arena root (Output text) = IsDump gc_rules words root text.items
+IsGcArenaAnswer words arena root (FaultLine text) = SaysWhyNotGc words arena root text.items

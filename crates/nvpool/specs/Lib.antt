@@ -1,5 +1,6 @@
 pub mod Causes
 pub mod Meaning
+pub mod Variants
 pub mod Telling
 pub mod Dumping
 pub mod Cutting

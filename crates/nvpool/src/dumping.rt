@@ -2,12 +2,15 @@
 ghost use Rattle.std.specs.Prelude.{ℕ, List, IfOk};
 ghost use Rattle.pool_layout.specs.Image.{AreWordsOf, AreWords};
 ghost use Rattle.heap_check.specs.Image.{IsSoundImage};
+ghost use Rattle.heap_map.specs.LogRules.{log_rules};
 ghost use Rattle.heap_map.specs.Blocks.{IsRootBlock};
-ghost use Rattle.nvpool.specs.Dumping.{dumping};
+ghost use Rattle.nvpool.specs.Dumping.{log_dumping, dumping};
 ghost use Rattle.nvpool.specs.Ends.{IsAnswer, IsArenaAnswer, IsDumpAnswer};
 
 use crate::answer::fault_line;
 use crate::cause::Cause;
+use crate::gc_dumping::gc_dump_answer;
+use gc_pool::has_gc_text;
 use heap_map::{RootBlock, block_of};
 use image_check::CheckFault;
 use map_text::write_dump;
@@ -16,9 +19,8 @@ use pool_layout::{parts, pool_header};
 use program_io::Answer;
 use std::alloc::Global;
 
-/// The words of the block of a root of an arena of a pool, or the line that says why there are none: the first defect of the
-/// bytes as the image of a pool; else that the pool has not the arena; else the first defect of that; else that the root has no
-/// block.
+/// The words of the block of a root of an arena of a pool of either variant, or the line that says why there are none. Its text
+/// says which variant it is judged as.
 pub(crate) fn dump_answer(
     alloc: Global,
     words: &[u64],
@@ -28,6 +30,26 @@ pub(crate) fn dump_answer(
 ) -> Result<Answer, OutOfMemory>
     requires { AreWords words.now bytes }
     ensures { IfOk result (λ answer. (image : List ℕ) → AreWordsOf words.now bytes image → IsAnswer (dumping arena root) image answer) }
+{
+    if has_gc_text(words) {
+        gc_dump_answer(alloc, words, bytes, arena, root)
+    } else {
+        log_dump_answer(alloc, words, bytes, arena, root)
+    }
+}
+
+// The words of the block of a root of an arena of a pool of the LOG variant, or the line that says why there are none: the first defect of the
+// bytes as the image of a pool; else that the pool has not the arena; else the first defect of that; else that the root has no
+// block.
+fn log_dump_answer(
+    alloc: Global,
+    words: &[u64],
+    bytes: u64,
+    arena: u32,
+    root: u32,
+) -> Result<Answer, OutOfMemory>
+    requires { AreWords words.now bytes }
+    ensures { IfOk result (λ answer. (image : List ℕ) → AreWordsOf words.now bytes image → IsAnswer (log_dumping arena root) image answer) }
 {
     let header = match pool_header(words, bytes) {
         Ok(header) => header,
@@ -73,7 +95,7 @@ fn dump_block(
     block: RootBlock,
 ) -> Result<Answer, OutOfMemory>
     requires sound { IsSoundImage words.now }
-    requires block { IsRootBlock words.now root block }
+    requires block { IsRootBlock log_rules words.now root block }
     ensures { IfOk result (IsDumpAnswer words.now root) }
 {
     let mut text = Vec::new(alloc);

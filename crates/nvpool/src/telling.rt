@@ -1,18 +1,20 @@
 // What `map`, `text` and `info` have to say of their input.
-ghost use Rattle.std.specs.Prelude.{◌≡◌, ◌↔◌, ◌*◌, ◌≤◌, ℕ, List, ◌++◌, length, IfOk, IfErr, OnOk};
+ghost use Rattle.std.specs.Prelude.{◌≡◌, ◌*◌, ◌≤◌, ℕ, List, ◌++◌, length, IfOk, IfErr, OnOk};
 ghost use Rattle.pool_layout.specs.Image.{AreWordsOf, AreWords, IfDefect};
-ghost use Rattle.heap_check.specs.Image.{IsSoundImage, IsExactImage};
-ghost use Rattle.heap_map.specs.Cells.{AreCells, AreNoneLoose};
-ghost use Rattle.heap_map.specs.Facts.{AreFacts, AreClassFills};
+ghost use Rattle.heap_check.specs.Image.{IsSoundImage};
+ghost use Rattle.heap_map.specs.LogRules.{log_rules};
 ghost use Rattle.map_text.specs.Drawing.{legend_line};
+ghost use Rattle.map_text.specs.Maps.{IsWritable};
 ghost use Rattle.map_svg.specs.Page.{head, end_of_page};
 ghost use Rattle.image_runs.specs.Checks.{HasUnsoundFrom, IsPoolDefect, IsOwnDefect};
 ghost use Rattle.map_text.specs.Pieces.{Adds};
-ghost use Rattle.nvpool.specs.Telling.{AreTold, IsTold, IsToldAs, front_of, back_of, telling};
+ghost use Rattle.nvpool.specs.Telling.{AreTold, IsTold, IsToldAs, front_of, back_of, told_text, log_telling, telling};
 ghost use Rattle.nvpool.specs.Ends.{IsAnswer};
 
 use crate::answer::fault_line;
 use crate::cause::Cause;
+use crate::gc_telling::gc_told_answer;
+use gc_pool::has_gc_text;
 use heap_map::{HeapMap, map_of};
 use image_check::CheckFault;
 use map_svg::{arena_y, write_end, write_head, write_picture};
@@ -34,7 +36,7 @@ pub(crate) enum Form {
     Picture,
 }
 
-/// What is told of each arena of the image of a pool, or the line of its first defect.
+/// What is told of each arena of the image of a pool, or the line of its first defect. Its text says which variant it is judged as.
 pub(crate) fn told_answer(
     alloc: Global,
     form: Form,
@@ -43,6 +45,23 @@ pub(crate) fn told_answer(
 ) -> Result<Answer, OutOfMemory>
     requires { AreWords words.now bytes }
     ensures { IfOk result (λ answer. (image : List ℕ) → AreWordsOf words.now bytes image → IsAnswer (telling form) image answer) }
+{
+    if has_gc_text(words) {
+        gc_told_answer(alloc, form, words, bytes)
+    } else {
+        log_told_answer(alloc, form, words, bytes)
+    }
+}
+
+// The same of an image of the LOG variant.
+fn log_told_answer(
+    alloc: Global,
+    form: Form,
+    words: &[u64],
+    bytes: u64,
+) -> Result<Answer, OutOfMemory>
+    requires { AreWords words.now bytes }
+    ensures { IfOk result (λ answer. (image : List ℕ) → AreWordsOf words.now bytes image → IsAnswer (log_telling form) image answer) }
 {
     match tell_pool(alloc, form, words, bytes) {
         Ok(text) => Ok(Answer::Output(text)),
@@ -72,8 +91,8 @@ fn tell_pool(alloc: Global, form: Form, words: &[u64], bytes: u64) -> Result<Vec
     }
 }
 
-// Writes what stands behind the arenas.
-fn write_back(form: Form, text: &mut Vec<u8>) -> Result<(), OutOfMemory>
+/// Writes what stands behind the arenas.
+pub(crate) fn write_back(form: Form, text: &mut Vec<u8>) -> Result<(), OutOfMemory>
     ensures { OnOk result (text.new.items ≡ text.old.items ++ back_of form) }
 {
     match form {
@@ -83,8 +102,12 @@ fn write_back(form: Form, text: &mut Vec<u8>) -> Result<(), OutOfMemory>
     }
 }
 
-// What stands before the arenas.
-fn front_of(alloc: Global, form: Form, header: &PoolHeader) -> Result<Vec<u8>, OutOfMemory>
+/// What stands before the arenas.
+pub(crate) fn front_of(
+    alloc: Global,
+    form: Form,
+    header: &PoolHeader,
+) -> Result<Vec<u8>, OutOfMemory>
     requires arenas { header.now.arenas ≤ 16 }
     requires granules { header.now.granules ≤ 4096 }
     ensures { IfOk result (λ text. text.items ≡ front_of form header.now) }
@@ -126,7 +149,7 @@ fn tell_arenas(
     requires size { length words.now ≡ header.now.arenas * header.now.granules * 2048 }
     requires arenas { header.now.arenas ≤ 16 }
     requires granules { header.now.granules ≤ 4096 }
-    ensures told { IfOk result (λ text. Adds (AreTold form words.now header.now header.now.arenas) (front_of form header.now) text.items) }
+    ensures told { IfOk result (λ text. Adds (AreTold log_rules form words.now header.now header.now.arenas) (front_of form header.now) text.items) }
     ensures unsound { IfErr result (λ fault. IfDefect fault (HasUnsoundFrom words.now header.now 0)) }
 {
     let mut text = match front_of(alloc, form, header) {
@@ -155,7 +178,7 @@ fn tell_one(
     requires arena { arena ≤ 16 }
     requires granules { header.now.granules ≤ 4096 }
     ensures sound { OnOk result (IsSoundImage words.now) }
-    ensures told { OnOk result (Adds (IsToldAs form header.now words.now arena) text.old.items text.new.items) }
+    ensures told { OnOk result (Adds (IsToldAs log_rules form header.now words.now arena) text.old.items text.new.items) }
     ensures defect { IfErr result (λ fault. IfDefect fault (IsOwnDefect words.now arena)) }
 {
     let map = match map_of(alloc, words) {
@@ -163,33 +186,28 @@ fn tell_one(
         Err(CheckFault::Memory(error)) => return Err(ImageFault::Memory(error)),
         Err(CheckFault::Defect(defect)) => return Err(ImageFault::Defect { arena, defect }),
     };
-    match write_map(form, header, words, arena, &map, text) {
+    match write_map(form, header, arena, &map, text) {
         Ok(()) => Ok(()),
         Err(error) => Err(ImageFault::Memory(error)),
     }
 }
 
-// Writes what is told of a sound arena, by its map.
-fn write_map(
+/// Writes what is told of an arena, by its map.
+pub(crate) fn write_map(
     form: Form,
     header: &PoolHeader,
-    words: &[u64],
     arena: u32,
     map: &HeapMap,
     text: &mut Vec<u8>,
 ) -> Result<(), OutOfMemory>
-    requires sound { IsSoundImage words.now }
-    requires cells { AreCells words.now map.now.cells.items }
-    requires exact { AreNoneLoose map.now.cells.items ↔ IsExactImage words.now }
-    requires facts { AreFacts words.now map.now.facts }
-    requires classes { AreClassFills words.now map.now.classes.items }
+    requires map { IsWritable map.now }
     requires arena { arena ≤ 16 }
     requires granules { header.now.granules ≤ 4096 }
-    ensures { OnOk result (Adds (IsToldAs form header.now words.now arena) text.old.items text.new.items) }
+    ensures { OnOk result (text.new.items ≡ text.old.items ++ told_text form header.now arena map.now) }
 {
     match form {
-        Form::Numbers => write_info(text, words, arena, map),
-        Form::Letters => write_text(text, words, arena, map),
-        Form::Picture => { write_picture(text, words, arena, arena_y(header.granules, arena), map) }
+        Form::Numbers => write_info(text, arena, map),
+        Form::Letters => write_text(text, arena, map),
+        Form::Picture => write_picture(text, arena, arena_y(header.granules, arena), map),
     }
 }

@@ -1,4 +1,4 @@
-use Rattle.std.proofs.Common.{◌<◌, ◌≢◌, ℕ, length, arith}
+use Rattle.std.proofs.Common.{arith}
 use Rattle.defect_search.specs.Claims.{claim_in}
 use Rattle.heap_map.proofs.RootBlocks.{block_of_claim, held_is_claimed}
 use Rattle.heap_map.proofs.block.held_among.Goals as goal

@@ -1,4 +1,3 @@
-use Rattle.std.proofs.Common.{arith}
 use Rattle.heap_map.proofs.SlabFills.{fill_there, no_fill_there}
 use Rattle.heap_map.proofs.classes.fill_here.Goals as goal
 

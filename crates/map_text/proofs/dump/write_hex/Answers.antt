@@ -1,4 +1,4 @@
-use Rattle.std.proofs.Common.{◌≡◌, ◌∷◌, [], ◌++◌, ◌-◌, ◌*◌, ◌/◌, ◌%◌, ◌^◌, ◌∙◌, List, ℕ, ap, arith}
+use Rattle.std.proofs.Common.{◌≡◌, ◌∷◌, [], ◌++◌, ◌-◌, ◌*◌, ◌/◌, ◌%◌, ◌^◌, ◌∙◌, ap, arith}
 use Rattle.map_text.specs.Pieces.{text_below}
 use Rattle.map_text.specs.Dump.{hex_digit, hex}
 use Rattle.map_text.proofs.dump.write_hex.Goals as goal

@@ -5,6 +5,7 @@ use Rattle.heap_check.specs.Image.{IsSoundImage}
 use Rattle.image_defects.specs.Defects.{IsFirstDefect}
 use Rattle.image_runs.specs.Checks.{HasUnsoundFrom, IsOwnDefect}
 use Rattle.image_runs.proofs.Faults.{wider}
+use Rattle.heap_map.specs.LogRules.{log_rules}
 use Rattle.map_text.specs.Pieces.{Adds}
 use Rattle.nvpool.specs.Telling.{AreTold, IsToldAs, front_of}
 use Rattle.nvpool.proofs.Told.{told_none, told_more}
@@ -12,7 +13,7 @@ use Rattle.nvpool.proofs.telling.tell_arenas.Goals as goal
 
 pub loop-arena-init : goal.loop-arena-init
 loop-arena-init c = record {
-  told = subst (Adds (AreTold c.args.form c.args.words.now c.args.header.now 0) (front_of c.args.form c.args.header.now)) (sym c.in-Ok.ensures) (told_none c.args.form c.args.words.now c.args.header.now (front_of c.args.form c.args.header.now));
+  told = subst (Adds (AreTold log_rules c.args.form c.args.words.now c.args.header.now 0) (front_of c.args.form c.args.header.now)) (sym c.in-Ok.ensures) (told_none log_rules c.args.form c.args.words.now c.args.header.now (front_of c.args.form c.args.header.now));
   sound = λ k below. absurd (omega arith);
 }
 
@@ -36,8 +37,8 @@ loop-arena-preserved c =
     let header = c.args.header.now in
     let n = c.loop-arena.arena in
     record {
-      told = told_more c.args.form words header n (front_of c.args.form header) c.loop-arena.text.items c.tell_one.new.text.items c.loop-arena.invariant.told
-          (subst (λ (ws : List ℕ). Adds (IsToldAs c.args.form header ws n) c.loop-arena.text.items c.tell_one.new.text.items) c.parts-own.ensures c.in-Ok-tell_one.ensures.told);
+      told = told_more log_rules c.args.form words header n (front_of c.args.form header) c.loop-arena.text.items c.tell_one.new.text.items c.loop-arena.invariant.told
+          (subst (λ (ws : List ℕ). Adds (IsToldAs log_rules c.args.form header ws n) c.loop-arena.text.items c.tell_one.new.text.items) c.parts-own.ensures c.in-Ok-tell_one.ensures.told);
       sound = λ k below. ⊎_elim
           (λ (same : k ≡ n). subst IsSoundImage (c.parts-own.ensures ∙ ap (λ m. part_of words header.granules m) (sym same)) c.in-Ok-tell_one.ensures.sound)
           (λ (other : k ≢ n). c.loop-arena.invariant.sound k (omega (arith, below, other)))

@@ -1,0 +1,8 @@
+use Rattle.std.proofs.Common.{◌≤◌}
+use Rattle.image_defects.specs.Count.{IsCount}
+use Rattle.gc_check.specs.Heap.{gc_tables}
+use Rattle.gc_map.specs.Slabs.{IsOldOf}
+use Rattle.gc_map.proofs.classes.count_old.Given as goal
+
+abbrev pub invariant-loop-root : goal.invariant-loop-root
+invariant-loop-root l = record { count : IsCount (IsOldOf (gc_tables l.words) l.class) l.root l.count; few : l.count ≤ l.root }

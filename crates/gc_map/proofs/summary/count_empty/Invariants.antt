@@ -1,0 +1,8 @@
+use Rattle.std.proofs.Common.{◌≤◌}
+use Rattle.image_defects.specs.Count.{IsCount}
+use Rattle.gc_check.specs.Heap.{gc_tables}
+use Rattle.heap_check.specs.Sound.{IsEmptySlab}
+use Rattle.gc_map.proofs.summary.count_empty.Given as goal
+
+abbrev pub invariant-loop-start : goal.invariant-loop-start
+invariant-loop-start l = record { count : IsCount (IsEmptySlab (gc_tables l.words)) l.start l.count; few : l.count ≤ l.start }

@@ -1,0 +1,8 @@
+use Rattle.std.proofs.Common.{◌≤◌}
+use Rattle.image_defects.specs.Count.{IsCount}
+use Rattle.gc_check.specs.Heap.{gc_tables}
+use Rattle.image_defects.specs.Summaries.{HasSlab}
+use Rattle.gc_map.proofs.summary.count_slabs.Given as goal
+
+abbrev pub invariant-loop-start : goal.invariant-loop-start
+invariant-loop-start l = record { count : IsCount (HasSlab (gc_tables l.words)) l.start l.count; few : l.count ≤ l.start }

@@ -1,0 +1,4 @@
+pub mod Slabs
+pub mod GcRules
+pub mod Places
+pub mod Readings

@@ -1,0 +1,18 @@
+// The word of a root, and what it says.
+ghost use Rattle.std.specs.Prelude.{◌≡◌, ◌^◌, ◌<◌};
+ghost use Rattle.gc_check.specs.Heap.{address_field, class_field};
+
+/// The address that a word has.
+pub(crate) fn address_of(word: u64) -> u64
+    ensures field { result ≡ address_field word }
+    ensures few { result < 2 ^ 32 }
+{
+    word % (1 << 32)
+}
+
+/// The class and one, 0 for a large block.
+pub(crate) fn class_field_of(word: u64) -> u8
+    ensures { result ≡ class_field word }
+{
+    ((word >> 32) % 256) as u8
+}
