@@ -14,9 +14,9 @@ use Rattle.pool_layout.specs.Bytes.{bytes_of_words, words_of_bytes}
 use Rattle.pool_layout.specs.Header.{fields_of, granules_in, IsHeader}
 use Rattle.pool_layout.specs.Image.{part_of, header_of_arena, IsPoolImage, IsImageOf}
 use Rattle.pool_layout.proofs.Headers.{fields_of-header_word, header_fits}
-use Rattle.pool_layout.proofs.Images.{length-part_of, part_inside}
+use Rattle.pool_layout.proofs.Images.{part_inside}
 use Rattle.pool_layout.proofs.Words.{words_of_bytes-bytes_of_words, length-bytes_of_words}
-use Rattle.heap_check.specs.Image.{header_in, IsSoundImage, IsExactImage}
+use Rattle.heap_check.specs.Image.{header_in, IsSoundImage}
 use Rattle.recover.specs.Recovered.{IsRecovered}
 use Rattle.recovery_steps.proofs.Exact.{recovers_sound_none}
 use Rattle.image_runs.specs.Repairs.{IsRepaired, IsPoolRepaired, AreWholeWords, AddsRepair}

@@ -29,11 +29,8 @@ impl Command {
         ensures { result ≡ (meaning_of self).reads }
     {
         match self {
-            Command::Map
-            | Command::Text
-            | Command::Info
-            | Command::Dump { .. }
-            | Command::Repair => Kind::Image,
+            Command::Map | Command::Text | Command::Info | Command::Dump { .. } | Command::Repair =>
+                Kind::Image,
             Command::Cut { .. } => Kind::Text,
         }
     }

@@ -14,11 +14,7 @@ use std::alloc::Global;
 
 /// The bytes of the image of a pool, of which these are the words, and which has so many bytes, with each of its arenas
 /// recovered; or the line of its first defect.
-pub(crate) fn repair_answer(
-    alloc: Global,
-    words: &[u64],
-    bytes: u64,
-) -> Result<Answer, OutOfMemory>
+pub(crate) fn repair_answer(alloc: Global, words: &[u64], bytes: u64) -> Result<Answer, OutOfMemory>
     requires { AreWords words.now bytes }
     ensures { IfOk result (λ answer. (image : List ℕ) → AreWordsOf words.now bytes image → IsAnswer repairing image answer) }
 {

@@ -29,9 +29,9 @@ module _ (words : List ℕ) (exact : IsExactImage words) where
   settles_none : (events : List Event) → SettlesOpen words events → events ≡ []
   settles_none events settles = ⊎_elim (λ closed. closed.1)
       (λ (open_one : IsSettling words events).
-          let opened = entry_is words open_one.line open_one.below open_one.entry (record { image = steady; here = open_one.here }) in
-          let closed = exact.exact.closed in
-          absurd (cc (opened, closed)))
+      let opened = entry_is words open_one.line open_one.below open_one.entry (record { image = steady; here = open_one.here }) in
+      let closed = exact.exact.closed in
+      absurd (cc (opened, closed)))
       settles
 
   no_loose_large : (start : ℕ) → ¬ (IsLooseLarge (tables_of words) start)
