@@ -108,7 +108,7 @@ tallies_put words sound n place tallies tally is inside own are = record {
 -- a slab with a block of another class is in transition
 pub turns_by : (words : List ℕ) (start old : ℕ) → IsCount (IsOldIn (gc_tables words) start) (roots_in words) old → IsTrue (nat_lt 0 old) ↔ IsMixed (gc_tables words) start
 turns_by words start old count = (
-  λ is. let found = some_below (IsOldIn (gc_tables words) start) (roots_in words) old count (ltb-true 0 old is) in record { root = found.0; old = found.1.1 },
+  λ is. let found = some_below (IsOldIn (gc_tables words) start) (roots_in words) old count (ltb-true 0 old is) in record { root = found.0; old = found.2 },
   λ mixed. ⊎_elim
       (λ (some : 0 < old). lt-ltb 0 old some)
       (λ (none : old ≤ 0). absurd (none_below (IsOldIn (gc_tables words) start) (roots_in words) old count (omega (arith, none)) mixed.root (held_below words mixed.root mixed.old.lies.some) mixed.old))
