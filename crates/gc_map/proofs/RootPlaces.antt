@@ -1,10 +1,10 @@
 -- Where the blocks of roots lie, root by root.
-use Rattle.std.proofs.Common.{◌≡◌, ◌≢◌, ◌+◌, ◌-◌, ◌<◌, ◌≤◌, ℕ, true, false, true≢false, List, [], ◌∷◌, ◌++◌, Option, None, Some, sym, ap, ◌∙◌, arith}
+use Rattle.std.proofs.Common.{◌≡◌, ◌+◌, ◌-◌, ◌<◌, ◌≤◌, ℕ, false, true≢false, List, [], ◌∷◌, ◌++◌, Option, None, Some, sym, ap, ◌∙◌, arith}
 use Rattle.std.specs.Prelude.{MatchOption}
 use Rattle.image_tables.specs.Tables.{Tables}
 use Rattle.gc_map.specs.declared.places.Place.{Place}
 use Rattle.gc_map.specs.Places.{HasNoSlabOver, HasNoPlace, IsPlaceOf, IsPlaced, ArePlaces}
-use Rattle.gc_map.proofs.Rows.{AreRight, right_more}
+use Rattle.gc_map.proofs.Rows.{right_more}
 
 -- no slab begins at a granule or at one of the three before it
 pub none_over : (t : Tables) (granule n : ℕ) → 4 ≤ n → ((back : ℕ) → back < n → back ≤ granule → t.slab (granule - back) ≡ false) → HasNoSlabOver t granule

@@ -1,5 +1,5 @@
 -- Tallies of slabs, one root more.
-use Rattle.std.proofs.Common.{◌≡◌, ◌≢◌, ◌↔◌, ◌+◌, ◌-◌, ◌*◌, ◌<◌, ◌≤◌, ℕ, List, [], ◌∷◌, ◌++◌, length, set, refl, sym, ap, subst, ◌∙◌, arith, inl, inr, ⊎_elim, nat_lt, IsTrue}
+use Rattle.std.proofs.Common.{◌≡◌, ◌≢◌, ◌↔◌, ◌+◌, ◌<◌, ◌≤◌, ℕ, List, [], ◌∷◌, ◌++◌, length, set, refl, sym, ap, subst, ◌∙◌, arith, inl, inr, ⊎_elim, nat_lt, IsTrue}
 use Rattle.std.proofs.lemmas.Bool.{cases_eq, cases_lt, ltb-true, lt-ltb}
 use Rattle.std.proofs.lemmas.List.{length-set, get_or-set_same, get_or-set_other}
 use Rattle.size_classes.specs.Classes.{class_size}
@@ -19,7 +19,7 @@ use Rattle.gc_map.specs.GcRules.{roots_in}
 use Rattle.gc_map.specs.declared.places.Place.{Place}
 use Rattle.gc_map.specs.declared.tallies.Tally.{Tally}
 use Rattle.gc_map.specs.Places.{HasNoPlace, IsPlaceOf, no_tally, tally_in, IsTally, AreTallies}
-use Rattle.gc_map.proofs.Rows.{AreRight, right_more}
+use Rattle.gc_map.proofs.Rows.{right_more}
 use Rattle.gc_map.proofs.Slabs.{one_slab}
 
 -- the bytes that a block has in a slab, or has not

@@ -1,4 +1,4 @@
-use Rattle.std.proofs.Common.{◌≡◌, ◌<◌, ◌∙◌, List, ℕ, length, ap, sym, subst, arith}
+use Rattle.std.proofs.Common.{◌∙◌, List, length, ap, sym, subst, arith}
 use Rattle.gc_check.specs.Heap.{gc_tables}
 use Rattle.heap_map.proofs.Extents.{extent_cell}
 use Rattle.gc_map.specs.GcRules.{roots_in, gc_rules}
