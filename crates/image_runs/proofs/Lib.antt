@@ -2,3 +2,4 @@ pub mod Lines
 pub mod Faults
 pub mod Pieces
 pub mod Migrations
+pub mod Repairs

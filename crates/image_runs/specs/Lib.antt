@@ -1,3 +1,4 @@
 pub mod Checks
 pub mod Recoveries
 pub mod Migrations
+pub mod Repairs

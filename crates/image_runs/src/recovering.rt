@@ -76,8 +76,8 @@ pub fn recover_arena<P: Pmem + Drop>(
     }
 }
 
-// The fault of an arena's recovery, as one of its pool.
-fn fault_at(arena: u32, fault: RecoverFault) -> ImageFault
+/// The fault of an arena's recovery, as one of its pool.
+pub(crate) fn fault_at(arena: u32, fault: RecoverFault) -> ImageFault
     ensures { result ≡ fault_at arena fault }
 {
     match fault {

@@ -30,6 +30,16 @@ pub(crate) const UNSOUND: [Run; 3] = [
     (16, &[17]),
 ];
 
+/// Two arenas that have nothing, and the directory of the second names no chunk that there is.
+pub(crate) const SECOND_UNSOUND: [Run; 6] = [
+    (0, b"NVALLOG1"),
+    (8, &[1, 0, 0, 0, 16, 0, 2, 0]),
+    (16, &[1]),
+    (262144, b"NVALLOG1"),
+    (262152, &[1, 0, 1, 0, 16, 0, 2, 0]),
+    (262160, &[17]),
+];
+
 /// One slab of class 6, whose block 0 root 5 holds; the block has two words other than 0.
 pub(crate) const ONE_BLOCK: [Run; 9] = [
     (0, b"NVALLOG1"),

@@ -5,7 +5,7 @@ use Rattle.std.specs.Prelude.{decimal}
 use Rattle.nvheap.specs.Command.{AreNumbers}
 use Rattle.nvpool.specs.declared.cause.Cause.{Cause}
 use Rattle.nvpool.specs.declared.command.Command.{Command}
-use Rattle.nvpool.specs.declared.command.Command.TheVariants.{Map, Text, Info, Dump, Cut}
+use Rattle.nvpool.specs.declared.command.Command.TheVariants.{Map, Text, Info, Dump, Cut, Repair}
 use Rattle.nvpool.specs.Meaning.{Meaning}
 use Rattle.nvpool.specs.Command.{row_of, meaning_of, IsCommand, IsSaid}
 use Rattle.gc_pool.proofs.NoDefect.{text_of}
@@ -30,6 +30,7 @@ command_by k numbers =
     if k == 1134 then Some Info else
     if k == 1141 then Some (Dump (get_or numbers 0 0) (get_or numbers 1 0)) else
     if k == 885 then Some (Cut (get_or numbers 0 0) (get_or numbers 1 0) (get_or numbers 2 0)) else
+    if k == 1637 then Some Repair else
     None
 
 -- it is the one whose text and numbers they are
@@ -39,6 +40,7 @@ back Text = refl
 back Info = refl
 back (Dump arena root) = refl
 back (Cut arena event seed) = refl
+back Repair = refl
 
 -- what a command accepts it does not refuse
 
@@ -55,6 +57,7 @@ settled Text input why has = told_settled Letters input why has
 settled Info input why has = told_settled Numbers input why has
 settled (Dump arena root) input why has = dump_settled arena root input why has
 settled (Cut arena event seed) input why has = cut_not_refused arena event input why has
+settled Repair input why has = image_not_refused input why has
 
 -- one command
 

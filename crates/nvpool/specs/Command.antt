@@ -2,12 +2,13 @@
 use Rattle.std.specs.Prelude.{◌≡◌, ℕ, ◌<◌, List, [], ◌∷◌, map, decimal, codes}
 use Rattle.nvheap.specs.Command.{AreNumbers}
 use Rattle.nvpool.specs.declared.command.Command.{Command}
-use Rattle.nvpool.specs.declared.command.Command.TheVariants.{Map, Text, Info, Dump, Cut}
+use Rattle.nvpool.specs.declared.command.Command.TheVariants.{Map, Text, Info, Dump, Cut, Repair}
 use Rattle.nvpool.specs.Meaning.{Meaning}
 use Rattle.nvpool.specs.declared.telling.Form.TheVariants.{Numbers, Letters, Picture}
 use Rattle.nvpool.specs.Telling.{telling}
 use Rattle.nvpool.specs.Dumping.{dumping}
 use Rattle.nvpool.specs.Cutting.{cutting}
+use Rattle.nvpool.specs.Repairing.{repairing}
 
 -- a command: its first word, the numbers behind it and which they may be, and what it means
 pub record Row : Type 1 where
@@ -27,6 +28,7 @@ row_of Text = alone (codes "text") (telling Letters)
 row_of Info = alone (codes "info") (telling Numbers)
 row_of (Dump arena root) = record { text = codes "dump"; numbers = arena ∷ root ∷ []; fits = (arena < 16) × (root < 65536); meaning = dumping arena root }
 row_of (Cut arena event seed) = record { text = codes "cut"; numbers = arena ∷ event ∷ seed ∷ []; fits = arena < 16; meaning = cutting arena event seed }
+row_of Repair = alone (codes "repair") repairing
 
 -- what a command means
 abbrev pub meaning_of : Command → Meaning

@@ -4,5 +4,6 @@ pub mod Variants
 pub mod Telling
 pub mod Dumping
 pub mod Cutting
+pub mod Repairing
 pub mod Command
 pub mod Ends

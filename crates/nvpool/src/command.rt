@@ -19,6 +19,8 @@ pub enum Command {
     /// Run a trace on one arena, from 0 to 15, up to an event, and on the others whole, and write the image that a power cut
     /// leaves.
     Cut { arena: u32, event: u64, seed: u64 },
+    /// Write the image with each arena recovered.
+    Repair,
 }
 
 impl Command {
@@ -27,7 +29,8 @@ impl Command {
         ensures { result ≡ (meaning_of self).reads }
     {
         match self {
-            Command::Map | Command::Text | Command::Info | Command::Dump { .. } => Kind::Image,
+            Command::Map | Command::Text | Command::Info | Command::Dump { .. } | Command::Repair =>
+                Kind::Image,
             Command::Cut { .. } => Kind::Text,
         }
     }
@@ -65,6 +68,9 @@ fn plain_command(word: &String) -> Option<Command>
     }
     if is_word(word, "info") {
         return Some(Command::Info);
+    }
+    if is_word(word, "repair") {
+        return Some(Command::Repair);
     }
     None
 }

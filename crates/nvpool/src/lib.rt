@@ -1,12 +1,13 @@
 // What the program for operators does between its words and its exit code: it reads the image of a pool, and shows what each
-// granule of its arenas is, tells that in numbers for scripts, and writes the words of the block of a root; or it reads a trace,
-// and writes the image that a power cut leaves of its pool.
+// granule of its arenas is, tells that in numbers for scripts, writes the words of the block of a root, or the image with each
+// arena recovered; or it reads a trace, and writes the image that a power cut leaves of its pool.
 //
 // `operate` does all of it, over a source of bytes and a sink for bytes, which are those of `program_io`, as are its answers. Its
 // contract is what the program promises: `specs/Ends.antt` says how a run ends by what a command means, and the table of
 // `specs/Command.antt` has the meaning of each. The program's `main` makes the real source and sink, and calls `operate`. No
-// rule of the heap stands here: maps are drawn by `heap_map` and, of arenas of the GC variant, by `gc_map`, and written by `map_text` and `map_svg`; the calls of a trace are made by
-// `trace_runs`, and cut off by `trace_crashes`.
+// rule of the heap stands here: maps are drawn by `heap_map` and, of arenas of the GC variant, by `gc_map`, and written by `map_text`
+// and `map_svg`; an image is repaired by `image_runs`; the calls of a trace are made by `trace_runs`, and cut off by
+// `trace_crashes`.
 #![tactic(auto)]
 
 mod answer;
@@ -17,6 +18,7 @@ mod dumping;
 mod gc_dumping;
 mod gc_telling;
 mod operating;
+mod repairing;
 mod telling;
 
 pub use cause::Cause;

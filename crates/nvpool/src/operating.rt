@@ -8,6 +8,7 @@ ghost use Rattle.nvpool.specs.Ends.{told_by, Ends, HasAcceptable, IsSilent, IsAn
 use crate::command::{Command, command_of};
 use crate::cutting::cut_answer;
 use crate::dumping::dump_answer;
+use crate::repairing::repair_answer;
 use crate::telling::{Form, told_answer};
 use pmem_lines::OutOfMemory;
 use program_io::{Answer, Input, Sink, Source, Status, read_input, write_answer};
@@ -85,6 +86,7 @@ fn answer_to(alloc: Global, command: Command, input: &Input) -> Result<Answer, O
         (Command::Cut { arena, event, seed }, Input::Text(text)) => {
             cut_answer(alloc, text, arena, event, seed)
         }
+        (Command::Repair, Input::Image { words, bytes }) => repair_answer(alloc, words, *bytes),
         _ => unreachable!(),
     }
 }

@@ -28,7 +28,7 @@ fn without_words(fault: io::Error) -> Status {
 fn complaint(status: Status) -> Option<&'static str> {
     match status {
         Status::Done | Status::Refused => None,
-        Status::Usage => Some("usage: nvpool map, text, info, dump A R, cut A K SEED"),
+        Status::Usage => Some("usage: nvpool map, text, info, dump A R, repair, cut A K SEED"),
         Status::ReadFault => Some("read fault"),
         Status::WriteFault => Some("write fault"),
         Status::Memory => Some("out of memory"),

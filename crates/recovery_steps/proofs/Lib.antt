@@ -5,3 +5,4 @@ pub mod Leaving
 pub mod NearlyDone
 pub mod OpenEntries
 pub mod Chains
+pub mod Exact

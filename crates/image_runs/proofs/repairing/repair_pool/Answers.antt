@@ -1,0 +1,67 @@
+use Rattle.std.proofs.Common.{◌≡◌, ◌∙◌, ◌*◌, ◌≤◌, ◌++◌, List, ℕ, length, drop, ap, arith, subst, sym, length-append}
+use Rattle.std.proofs.lemmas.List.{length-take-le}
+use Rattle.pool_layout.specs.Image.{part_of}
+use Rattle.pool_layout.proofs.Images.{length-part_of}
+use Rattle.pool_layout.proofs.Layouts.{layout_rules}
+use Rattle.image_defects.specs.Defects.{IsFirstDefect}
+use Rattle.image_runs.specs.Checks.{HasUnsoundFrom, IsOwnDefect}
+use Rattle.image_runs.specs.Repairs.{AddsRepair}
+use Rattle.image_runs.proofs.Faults.{wider}
+use Rattle.image_runs.proofs.Repairs.{HasRepairs, no_repairs, repairs_more, pool_repaired}
+use Rattle.image_runs.proofs.repairing.repair_pool.Goals as goal
+
+pub buffers-requires-clause-granules : goal.buffers-requires-clause-granules
+buffers-requires-clause-granules c = omega (arith, c.requires.first.valid.greatest, (layout_rules c.args.header.now.version).most)
+
+pub loop-arena-init : goal.loop-arena-init
+loop-arena-init c = record {
+  done = subst (HasRepairs c.args.words.now c.args.header.now.granules 0) (sym c.in-Ok.ensures.bytes) (no_repairs c.args.words.now c.args.header.now.granules);
+  piece = c.in-Ok.ensures.piece;
+}
+
+pub add_repair-requires-clause-whole : goal.add_repair-requires-clause-whole
+add_repair-requires-clause-whole c =
+    let header = c.args.header.now in
+    let size : length c.parts-own.result.now ≡ 2048 * header.granules = ap length c.parts-own.ensures ∙ length-part_of c.args.words.now header.granules header.arenas c.loop-arena.arena c.requires.size c.loop-arena-test.true in
+    omega (arith, size)
+
+pub add_repair-requires-clause-few : goal.add_repair-requires-clause-few
+add_repair-requires-clause-few c =
+    let header = c.args.header.now in
+    let size : length c.parts-own.result.now ≡ 2048 * header.granules = ap length c.parts-own.ensures ∙ length-part_of c.args.words.now header.granules header.arenas c.loop-arena.arena c.requires.size c.loop-arena-test.true in
+    omega (arith, size, c.requires.first.valid.greatest, (layout_rules header.version).most)
+
+pub returns-in-Err-add_repair-clause-unsound : goal.returns-in-Err-add_repair-clause-unsound
+returns-in-Err-add_repair-clause-unsound c =
+    let words = c.args.words.now in
+    let header = c.args.header.now in
+    let k = c.loop-arena.arena in
+    wider c.in-Err-add_repair.fault (IsOwnDefect c.parts-own.result.now k) (HasUnsoundFrom words header 0)
+    (λ arena defect own. record {
+      low = omega arith;
+      inside = omega (arith, own.same, c.loop-arena-test.true);
+      before = λ earlier from below. (c.loop-arena.invariant.done.each earlier (omega (arith, below, own.same))).sound;
+      first = subst (λ (ws : List ℕ). IsFirstDefect ws defect) (c.parts-own.ensures ∙ ap (λ n. part_of words header.granules n) (sym own.same)) own.first;
+    })
+    c.in-Err-add_repair.ensures.defect
+
+pub loop-arena-preserved : goal.loop-arena-preserved
+loop-arena-preserved c =
+    let words = c.args.words.now in
+    let header = c.args.header.now in
+    let k = c.loop-arena.arena in
+    let used = c.add_repair.new.piece in
+    let kept = c.in-Ok-add_repair.ensures.piece in
+    let full : c.loop-arena.piece.len ≡ 4096 = sym c.deref_mut.ensures.len ∙ ap length c.deref_mut.ensures.value ∙ c.loop-arena.invariant.piece in
+    record {
+      done = repairs_more words header.granules (length-part_of words header.granules header.arenas k c.requires.size c.loop-arena-test.true) c.loop-arena.invariant.done
+          (subst (λ (ws : List ℕ). AddsRepair ws c.loop-arena.bytes.items c.add_repair.new.bytes.items) c.parts-own.ensures c.in-Ok-add_repair.ensures.added);
+      piece = length-take-le c.loop-arena.piece.len (used ++ drop (length used) c.loop-arena.piece.items) (omega (arith, length-append used (drop (length used) c.loop-arena.piece.items), kept, full)) ∙ full;
+    }
+
+pub returns-clause-repaired : goal.returns-clause-repaired
+returns-clause-repaired c =
+    let header = c.args.header.now in
+    let bytes = c.loop-arena.bytes.items in
+    let all : c.loop-arena.arena ≡ header.arenas = omega (arith, c.loop-arena-test.false, c.loop-arena.auto.arena-end) in
+    pool_repaired c.args.words.now header bytes c.requires (subst (λ n. HasRepairs c.args.words.now header.granules n bytes) all c.loop-arena.invariant.done)

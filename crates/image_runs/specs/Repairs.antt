@@ -1,0 +1,58 @@
+-- What `repair` makes of the image of a pool: the recovered image of each arena.
+use Rattle.std.specs.Prelude.{◌≡◌, ℕ, ◌^◌, ◌<◌, List, ◌++◌, length}
+use Rattle.std.specs.List.{All}
+use Rattle.pmem_lines.specs.declared.event.Event.{Event}
+use Rattle.pmem_lines.specs.Events.{reading}
+use Rattle.pool_layout.specs.declared.header.PoolHeader.{PoolHeader}
+use Rattle.pool_layout.specs.Bytes.{bytes_of_words}
+use Rattle.pool_layout.specs.Image.{part_of, IsImageOf}
+use Rattle.image_tables.specs.Tables.{tables_of}
+use Rattle.heap_check.specs.Image.{header_in, IsSoundImage, IsExactImage}
+use Rattle.heap_check.specs.State.{HaveSameHeap, KeepsBlocks}
+use Rattle.recovery_steps.specs.Parts.{KeepsClasses}
+use Rattle.recovery_steps.specs.Recovery.{RecoversSound}
+
+-- the new words are what the events of a recovery of the old ones make of these
+pub record HasRecoveryOf (words new : List ℕ) : Type 0 where
+  pub events : List Event
+  pub stores : RecoversSound words events
+  pub is : new ≡ reading words events
+
+-- The words are sound, and the new ones are an exact image, as long and with the same header line, with the heap of the old
+-- ones, in which each block has the words that it had; each live slab was one of the same class. Exact words stay as they are.
+pub record IsRepaired (words new : List ℕ) : Type 0 where
+  pub sound : IsSoundImage words
+  pub size : length new ≡ length words
+  pub header : header_in new ≡ header_in words
+  pub exact : IsExactImage new
+  pub heap : HaveSameHeap words new
+  pub blocks : KeepsBlocks words new
+  pub slabs : KeepsClasses (tables_of words) (tables_of new)
+  -- what was stored
+  pub recovery : HasRecoveryOf words new
+  pub still : IsExactImage words → new ≡ words
+
+-- the bytes are the image of a pool with this header, and the words of each of its arenas are such ones of those of the arena in
+-- these words
+pub record IsPoolWith (Is : List ℕ → List ℕ → Type 0) (words : List ℕ) (header : PoolHeader) (bytes : List ℕ) : Type 0 where
+  pub new : List ℕ
+  pub image : IsImageOf bytes new
+  pub same : image.header ≡ header
+  pub each : (arena : ℕ) → arena < header.arenas → Is (part_of words header.granules arena) (part_of new header.granules arena)
+
+-- All arenas of a pool are sound, and the bytes are the image of the pool with each of them repaired.
+abbrev pub IsPoolRepaired : List ℕ → PoolHeader → List ℕ → Type 0
+IsPoolRepaired = IsPoolWith IsRepaired
+
+-- for the functions below
+
+-- each word is one of 64 bits
+abbrev pub AreWholeWords : List ℕ → Type 0
+AreWholeWords words = All (λ word. word < 2 ^ 64) words
+
+-- the bytes of a repaired arena of these words are added behind others
+pub record AddsRepair (words old new : List ℕ) : Type 0 where
+  pub own : List ℕ
+  pub repaired : IsRepaired words own
+  pub fit : AreWholeWords own
+  pub is : new ≡ old ++ bytes_of_words own
