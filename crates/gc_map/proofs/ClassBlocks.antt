@@ -1,7 +1,7 @@
 -- Blocks of a class, in slabs of the class and in others.
-use Rattle.std.proofs.Common.{◌≡◌, ◌≢◌, ◌↔◌, ◌+◌, ℕ, List, ap, sym, ◌∙◌, arith}
+use Rattle.std.proofs.Common.{◌≡◌, ◌≢◌, ◌↔◌, ℕ, List, ap, arith}
 use Rattle.image_tables.specs.Tables.{Tables}
-use Rattle.gc_check.specs.Heap.{class_field, gc_tables}
+use Rattle.gc_check.specs.Heap.{gc_tables}
 use Rattle.gc_check.specs.Image.{IsGcSoundImage}
 use Rattle.gc_map.specs.Slabs.{IsLiveOf, IsOldOf}
 use Rattle.gc_map.specs.declared.places.Place.{Place}

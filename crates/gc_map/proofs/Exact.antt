@@ -1,5 +1,5 @@
 -- No cell of a sound image is loose exactly where the image is exact.
-use Rattle.std.proofs.Common.{◌≡◌, ◌≢◌, ◌↔◌, ◌&&◌, ◌+◌, ◌*◌, ◌<◌, ◌≤◌, ℕ, true, false, true≢false, Bool, ltb, leb, eqb, List, length, refl, sym, subst, ◌∙◌, arith, ⊎_elim, IsTrue}
+use Rattle.std.proofs.Common.{◌≡◌, ◌≢◌, ◌↔◌, ◌&&◌, ◌+◌, ◌*◌, ◌<◌, ◌≤◌, ℕ, true, false, true≢false, Bool, ltb, leb, eqb, List, length, refl, sym, subst, ◌∙◌, arith, ⊎_elim}
 use Rattle.std.proofs.lemmas.Bool.{eqb-true, eq-eqb, ltb-true, lt-ltb, leb-true, le-leb, and_parts, and_from}
 use Rattle.pool_layout.specs.Header.{granules_in}
 use Rattle.image_tables.specs.Tables.{Tables}

@@ -1,9 +1,8 @@
 -- What the readers of an image need of a sound one.
-use Rattle.std.proofs.Common.{◌≡◌, ◌+◌, ◌*◌, ◌<◌, ◌≤◌, ℕ, true, List, length, sym, ◌∙◌, arith}
-use Rattle.pool_layout.specs.Layout.{layout_of}
+use Rattle.std.proofs.Common.{◌≡◌, ◌+◌, ◌≤◌, ℕ, true, List, length, sym, ◌∙◌, arith}
 use Rattle.pool_layout.specs.Header.{version_in, granules_in}
 use Rattle.pool_layout.proofs.Layouts.{layout_rules}
-use Rattle.image_tables.specs.Tables.{is_slab, tables_of}
+use Rattle.image_tables.specs.Tables.{is_slab}
 use Rattle.book_log.specs.Book.{Book}
 use Rattle.image_reading.specs.Slabs.{IsSlabAt}
 use Rattle.heap_map.proofs.Granules.{IsLaid}

@@ -1,14 +1,13 @@
 -- The block of a root of a sound image: where it begins, and how large it is.
-use Rattle.std.proofs.Common.{◌≡◌, ◌≢◌, ◌+◌, ◌-◌, ◌*◌, ◌/◌, ◌<◌, ◌≤◌, ℕ, List, Some, sym, ap, subst, ◌∙◌, arith, ⊎_elim}
-use Rattle.size_classes.proofs.Spacing.{class_size-most, class_size-least}
+use Rattle.std.proofs.Common.{◌≡◌, ◌≢◌, ◌-◌, ◌*◌, ◌/◌, ◌<◌, ◌≤◌, ℕ, List, Some, sym, ap, ◌∙◌, arith, ⊎_elim}
+use Rattle.size_classes.proofs.Spacing.{class_size-most}
 use Rattle.pool_layout.specs.Header.{granules_in}
-use Rattle.image_tables.specs.Tables.{Tables, tables_of}
+use Rattle.image_tables.specs.Tables.{Tables}
 use Rattle.heap_check.proofs.Geometry.{is_large-parts}
-use Rattle.gc_check.specs.Heap.{address_field, class_field, gc_size, gc_block, gc_tables}
+use Rattle.gc_check.specs.Heap.{address_field, class_field, gc_size, gc_tables}
 use Rattle.gc_check.specs.Image.{IsGcSoundImage}
 use Rattle.gc_check.proofs.Heaps.{size_large, size_small, gc_heap-some}
 use Rattle.gc_check.proofs.RootWords.{whole, in_slab}
-use Rattle.gc_search.proofs.Standing.{gc_word}
 use Rattle.heap_map.specs.Blocks.{IsRootBlock}
 use Rattle.gc_map.specs.GcRules.{gc_rules}
 use Rattle.gc_map.proofs.Slabs.{slab_lies}

@@ -1,5 +1,5 @@
 -- Tallies of slabs, one root more.
-use Rattle.std.proofs.Common.{◌≡◌, ◌≢◌, ◌↔◌, ◌+◌, ◌-◌, ◌*◌, ◌<◌, ◌≤◌, ℕ, List, [], ◌∷◌, ◌++◌, length, set, refl, sym, ap, subst, ◌∙◌, arith, inl, inr, ⊎_elim, nat_lt, IsTrue}
+use Rattle.std.proofs.Common.{◌≡◌, ◌≢◌, ◌↔◌, ◌+◌, ◌<◌, ◌≤◌, ℕ, List, [], ◌∷◌, ◌++◌, length, set, refl, sym, ap, subst, ◌∙◌, arith, inl, inr, ⊎_elim, nat_lt, IsTrue}
 use Rattle.std.proofs.lemmas.Bool.{cases_eq, cases_lt, ltb-true, lt-ltb}
 use Rattle.std.proofs.lemmas.List.{length-set, get_or-set_same, get_or-set_other}
 use Rattle.size_classes.specs.Classes.{class_size}
@@ -19,7 +19,7 @@ use Rattle.gc_map.specs.GcRules.{roots_in}
 use Rattle.gc_map.specs.declared.places.Place.{Place}
 use Rattle.gc_map.specs.declared.tallies.Tally.{Tally}
 use Rattle.gc_map.specs.Places.{HasNoPlace, IsPlaceOf, no_tally, tally_in, IsTally, AreTallies}
-use Rattle.gc_map.proofs.Rows.{AreRight, right_more}
+use Rattle.gc_map.proofs.Rows.{right_more}
 use Rattle.gc_map.proofs.Slabs.{one_slab}
 
 -- the bytes that a block has in a slab, or has not
@@ -108,7 +108,7 @@ tallies_put words sound n place tallies tally is inside own are = record {
 -- a slab with a block of another class is in transition
 pub turns_by : (words : List ℕ) (start old : ℕ) → IsCount (IsOldIn (gc_tables words) start) (roots_in words) old → IsTrue (nat_lt 0 old) ↔ IsMixed (gc_tables words) start
 turns_by words start old count = (
-  λ is. let found = some_below (IsOldIn (gc_tables words) start) (roots_in words) old count (ltb-true 0 old is) in record { root = found.0; old = found.1.1 },
+  λ is. let found = some_below (IsOldIn (gc_tables words) start) (roots_in words) old count (ltb-true 0 old is) in record { root = found.0; old = found.2 },
   λ mixed. ⊎_elim
       (λ (some : 0 < old). lt-ltb 0 old some)
       (λ (none : old ≤ 0). absurd (none_below (IsOldIn (gc_tables words) start) (roots_in words) old count (omega (arith, none)) mixed.root (held_below words mixed.root mixed.old.lies.some) mixed.old))

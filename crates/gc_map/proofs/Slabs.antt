@@ -1,21 +1,18 @@
 -- The state of a slab, and which blocks of roots lie in it.
-use Rattle.std.proofs.Common.{◌≡◌, ◌≢◌, ◌+◌, ◌-◌, ◌*◌, ◌/◌, ◌%◌, ◌^◌, ◌<◌, ◌≤◌, ℕ, true, List, refl, sym, ap, subst, ◌∙◌, arith, inl, ⊎_elim}
+use Rattle.std.proofs.Common.{◌≡◌, ◌≢◌, ◌+◌, ◌-◌, ◌/◌, ◌%◌, ◌^◌, ◌<◌, ◌≤◌, ℕ, true, List, refl, sym, ap, ◌∙◌, arith, inl, ⊎_elim}
 use Rattle.std.proofs.lemmas.Bool.{cond-true}
-use Rattle.size_classes.specs.Classes.{class_size}
 use Rattle.pmem_lines.specs.Words.{word_at}
-use Rattle.image_tables.specs.Forms.{normal_kind}
 use Rattle.image_tables.specs.Tables.{SlabHeader, Tables, is_slab, state_word, state_field, tables_of}
 use Rattle.image_tables.proofs.Tables.{slab_fields}
 use Rattle.slab_header.specs.declared.state.SlabState.TheVariants.{Normal}
 use Rattle.heap_check.specs.Heap.{is_large}
-use Rattle.heap_check.specs.Sound.{granules_at, Covers, IsInSlab}
+use Rattle.heap_check.specs.Sound.{granules_at, Covers}
 use Rattle.heap_check.specs.Image.{bounds_of}
 use Rattle.heap_check.proofs.Geometry.{granules_at-slab, is_large-parts, Covers-slab}
 use Rattle.image_reading.specs.Slabs.{IsSlabOf}
-use Rattle.gc_check.specs.Heap.{address_field, class_field, gc_size, gc_tables}
+use Rattle.gc_check.specs.Heap.{address_field, class_field, gc_tables}
 use Rattle.gc_check.specs.Image.{IsNormalWord, IsGcSoundImage}
 use Rattle.gc_check.proofs.Tables.{over}
-use Rattle.gc_check.proofs.Heaps.{size_small}
 use Rattle.gc_check.proofs.RootWords.{whole}
 use Rattle.gc_search.proofs.Standing.{gc_word}
 use Rattle.gc_map.specs.Slabs.{IsIn}

@@ -1,5 +1,5 @@
 -- What is known of the blocks of roots and of slabs while a map is drawn.
-use Rattle.std.specs.Prelude.{◌≡◌, ◌≢◌, ℕ, ◌+◌, ◌*◌, ◌<◌, ◌≤◌, true, List, length, slice_index_or, Option, Some, None}
+use Rattle.std.specs.Prelude.{◌≡◌, ℕ, ◌+◌, ◌*◌, ◌<◌, ◌≤◌, true, List, length, slice_index_or, Option, Some, None}
 use Rattle.image_tables.specs.Tables.{Tables}
 use Rattle.image_defects.specs.Count.{IsCount}
 use Rattle.gc_check.specs.Heap.{class_field}

@@ -11,6 +11,7 @@ ghost use Rattle.gc_map.specs.Readings.{IsReading};
 
 use crate::places::class_of_slab;
 use crate::reading::Reading;
+use crate::tallies::tally_at;
 use gc_search::{is_empty_slab, is_loose_large};
 use heap_map::{Cell, Kind, Scan, SlabFill, version_of};
 use image_reading::{Slab, granules_at, is_slab};
@@ -26,7 +27,7 @@ fn slab_cell(words: &[u64], reading: &Reading, start: u32) -> Cell
     ensures { IsExtentCell gc_rules words.now start result }
 {
     let class = class_of_slab(words, &reading.image.log, start);
-    let tally = reading.tallies[start as usize];
+    let tally = tally_at(&reading.tallies, start);
     let fill = SlabFill {
         slab: Slab {
             start,

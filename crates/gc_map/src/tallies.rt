@@ -19,6 +19,14 @@ pub(crate) struct Tally {
     pub(crate) bytes: u32,
 }
 
+/// The tally of a granule.
+pub(crate) fn tally_at(tallies: &[Tally], start: u32) -> Tally
+    requires { start < length tallies.now }
+    ensures { result ≡ tally_in tallies.now start }
+{
+    tallies[start as usize]
+}
+
 // The tally of a slab with one block more, which lies in it.
 fn one_more(words: &[u64], root: u32, tally: Tally, place: Place) -> Tally
     requires sound { IsGcSoundImage words.now }
@@ -43,6 +51,18 @@ fn one_more(words: &[u64], root: u32, tally: Tally, place: Place) -> Tally
     }
 }
 
+// Counts the block of a root, which lies in a slab. Those of the roots before it are counted.
+fn add_place(words: &[u64], tallies: &mut [Tally], root: u32, place: Place)
+    requires sound { IsGcSoundImage words.now }
+    requires root { root < 4096 }
+    requires place { IsPlaceOf (gc_tables words.now) root place }
+    requires counted { AreTallies (gc_tables words.now) (granules_in words.now) root tallies.old }
+    ensures { AreTallies (gc_tables words.now) (granules_in words.now) (root + 1) tallies.new }
+{
+    let start = place.start as usize;
+    tallies[start] = one_more(words, root, tallies[start], place);
+}
+
 // Counts the block of a root, which lies in a slab or not. Those of the roots before it are counted.
 fn count_root(words: &[u64], tallies: &mut [Tally], root: u32, place: Option<Place>)
     requires sound { IsGcSoundImage words.now }
@@ -53,10 +73,7 @@ fn count_root(words: &[u64], tallies: &mut [Tally], root: u32, place: Option<Pla
 {
     match place {
         None => {}
-        Some(place) => {
-            let start = place.start as usize;
-            tallies[start] = one_more(words, root, tallies[start], place);
-        }
+        Some(place) => add_place(words, tallies, root, place),
     }
 }
 

@@ -4,8 +4,8 @@ use Rattle.std.specs.Result.{IfOk}
 use Rattle.pool_layout.specs.declared.header.PoolHeader.{PoolHeader}
 use Rattle.pool_layout.specs.Image.{part_of, AreWordsOf}
 use Rattle.gc_pool.specs.Image.{IsGcPoolImage}
-use Rattle.nvpool.specs.declared.answer.Answer.{Answer}
-use Rattle.nvpool.specs.declared.answer.Answer.TheVariants.{Output, FaultLine}
+use Rattle.program_io.specs.declared.answer.Answer.{Answer}
+use Rattle.program_io.specs.declared.answer.Answer.TheVariants.{Output, FaultLine}
 use Rattle.nvpool.specs.declared.cause.Cause.{Cause}
 use Rattle.nvpool.specs.declared.cause.Cause.TheVariants.{Text, Image, NoArena, NoBlock}
 use Rattle.nvpool.specs.Dumping.{gc_dumping, IsGcBlockDump, HasGcArena, RefusesGcDump, RefusesGcArena}

@@ -7,7 +7,7 @@ ghost use Rattle.gc_map.specs.GcRules.{gc_rules};
 ghost use Rattle.nvpool.specs.Dumping.{gc_dumping};
 ghost use Rattle.nvpool.specs.Ends.{IsAnswer, IsGcArenaAnswer, IsGcDumpAnswer};
 
-use crate::answer::{Answer, fault_line};
+use crate::answer::fault_line;
 use crate::cause::Cause;
 use gc_map::gc_block_of;
 use gc_pool::gc_pool_header;
@@ -16,6 +16,7 @@ use heap_map::RootBlock;
 use map_text::write_dump;
 use pmem_lines::OutOfMemory;
 use pool_layout::parts;
+use program_io::Answer;
 use std::alloc::Global;
 
 /// The words of the block of a root of an arena of a pool of the GC variant, or the line that says why there are none, in the order of

@@ -7,7 +7,7 @@ ghost use Rattle.map_text.specs.Pieces.{Adds};
 ghost use Rattle.nvpool.specs.Telling.{AreTold, IsGcTold, IsToldAs, HasGcUnsound, IsGcPoolDefect, IsOwnGcDefect, front_of, gc_telling};
 ghost use Rattle.nvpool.specs.Ends.{IsAnswer};
 
-use crate::answer::{Answer, fault_line};
+use crate::answer::fault_line;
 use crate::cause::Cause;
 use crate::telling::{Form, front_of, write_back, write_map};
 use gc_map::gc_map_of;
@@ -15,6 +15,7 @@ use gc_pool::gc_pool_header;
 use gc_search::GcFault;
 use pmem_lines::OutOfMemory;
 use pool_layout::{ImageFault, PoolHeader, parts};
+use program_io::Answer;
 use std::alloc::Global;
 
 /// What is told of each arena of the image of a pool of the GC variant, or the line of its first defect.

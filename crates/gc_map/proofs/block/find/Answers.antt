@@ -1,4 +1,4 @@
-use Rattle.std.proofs.Common.{◌≡◌, ◌≢◌, ◌∙◌, ap, sym}
+use Rattle.std.proofs.Common.{◌≡◌, ◌∙◌, ap, sym}
 use Rattle.gc_check.specs.Heap.{address_field, gc_size, gc_tables}
 use Rattle.gc_check.proofs.Heaps.{gc_heap-none}
 use Rattle.gc_search.proofs.Standing.{gc_word}

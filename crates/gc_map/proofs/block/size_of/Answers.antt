@@ -1,4 +1,4 @@
-use Rattle.std.proofs.Common.{◌≡◌, ◌∙◌, ◌/◌, ℕ, ap, sym, arith}
+use Rattle.std.proofs.Common.{◌∙◌, ◌/◌, ℕ, ap, sym, arith}
 use Rattle.image_tables.specs.Tables.{tables_of}
 use Rattle.gc_check.specs.Heap.{address_field, gc_tables}
 use Rattle.gc_check.proofs.Heaps.{size_large}

@@ -1,4 +1,4 @@
-use Rattle.std.proofs.Common.{◌≡◌, ◌∙◌, ◌/◌, ℕ, sym, subst}
+use Rattle.std.proofs.Common.{◌∙◌, ◌/◌, ℕ, sym, subst}
 use Rattle.gc_check.specs.Heap.{gc_tables}
 use Rattle.gc_map.specs.Places.{HasNoSlabOver, IsSlabOver}
 use Rattle.gc_map.proofs.Premises.{roots_inside}
