@@ -7,6 +7,10 @@
 // of each class are. No cell is loose exactly where the image is exact. An image that is not sound has its first defect.
 // `block_of` finds the block of one root. The layers above use both calls and these definitions; `map_text` has the text of
 // maps.
+//
+// What a variant of arenas says to these definitions is a record of rules (`specs/Rules.antt`). `map_of` goes by those of the LOG
+// variant (`specs/LogRules.antt`); `gc_map` has those of the other, makes the same types, and counts in its cells by
+// `free_counts` and `count_transitions`.
 #![tactic(auto)]
 
 mod block;
