@@ -1,6 +1,8 @@
 // What `nvpool` says of images of the GC variant made by hand, worked by hand.
-use crate::images::{Run, SMALL};
-use crate::runs::{tells, written_of};
+use crate::images::{Run, SMALL, image_of};
+use crate::runs::{tells, tells_of, written, written_of};
+use std::alloc::Global;
+use std::process::Abort;
 use std::str;
 use std::test::Fail;
 
@@ -204,6 +206,95 @@ arena 0 transition 0
 arena 0 live 1
 arena 0 loose 1
 ";
+
+const TEXT_OF_MENDED_FREE: &str =
+    "h header, r roots, l log, . free, #= large block, S7 slab and tenths of it live, T7 slab in transition, ! loose
+arena 0
+   0  hrrl....#=......
+arena 0 variant gc
+arena 0 version 1
+arena 0 granules 16
+arena 0 free 10
+arena 0 longest 6
+arena 0 request 98304
+arena 0 large 1
+arena 0 slabs 0
+arena 0 transition 0
+arena 0 live 1
+arena 0 loose 0
+";
+
+// What a cut left is repaired: `text` tells this of what comes of it, and a second repair changes nothing.
+fn mends<R: Abort>(rt: &R, alloc: Global, image: &[Run], text: &str) -> Result<(), Fail> {
+    let mended = written_of(alloc, "repair", SMALL, image)?;
+    tells_of(rt, alloc, "text", &mended, 0, text)?;
+    let again = written(alloc, "repair", &mended)?;
+    assert!(rt; again == mended);
+    Ok(())
+}
+
+// An image in which nothing is loose comes out as it went in.
+fn stays<R: Abort>(rt: &R, alloc: Global, runs: &[Run]) -> Result<(), Fail> {
+    let image = image_of(alloc, SMALL, runs)?;
+    let mended = written(alloc, "repair", &image)?;
+    assert!(rt; mended == image);
+    Ok(())
+}
+
+#[test]
+fn a_cut_in_the_gc_variant_is_mended(rt: HostRuntime) -> Result<(), Fail> {
+    let alloc = rt.alloc();
+    mends(&rt, alloc, &IN_MALLOC, TEXT_OF_EMPTY)?;
+    mends(&rt, alloc, &IN_FREE, TEXT_OF_MENDED_FREE)?;
+    stays(&rt, alloc, &EMPTY)?;
+    stays(&rt, alloc, &FULL)?;
+    stays(&rt, alloc, &MIXED)?;
+    tells(
+        &rt,
+        alloc,
+        "repair",
+        SMALL,
+        &UNSOUND,
+        2,
+        "arena 0 bad directory 17\n",
+    )
+}
+
+#[test]
+fn words_of_a_block_of_the_gc_variant(rt: HostRuntime) -> Result<(), Fail> {
+    let alloc = rt.alloc();
+    let block = written_of(alloc, "dump 0 6", SMALL, &MIXED)?;
+    let text = str::from_utf8(&block)?;
+    assert!(rt; text.starts_with("00010890 0000000000000000 0000000000000000\n"));
+    assert_eq!(rt; text.lines().count(), 3);
+    tells(
+        &rt,
+        alloc,
+        "dump 0 8",
+        SMALL,
+        &MIXED,
+        2,
+        "arena 0 no block 8\n",
+    )?;
+    tells(
+        &rt,
+        alloc,
+        "dump 1 6",
+        SMALL,
+        &MIXED,
+        2,
+        "no arena 1 of 1\n",
+    )?;
+    tells(
+        &rt,
+        alloc,
+        "dump 0 6",
+        SMALL,
+        &UNSOUND,
+        2,
+        "arena 0 bad directory 17\n",
+    )
+}
 
 #[test]
 fn text_of_the_gc_variant(rt: HostRuntime) -> Result<(), Fail> {

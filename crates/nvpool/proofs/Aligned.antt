@@ -1,5 +1,5 @@
 -- The size of a block is a multiple of sixteen.
-use Rattle.std.proofs.Common.{◌≡◌, ◌==◌, ℕ, ◌%◌, ◌<◌, ◌≤◌, Bool, true, false, if◌then◌else◌, Some, None, List, sym, ap, subst, ⊎_elim, arith}
+use Rattle.std.proofs.Common.{◌≡◌, ◌==◌, ℕ, ◌-◌, ◌*◌, ◌/◌, ◌%◌, ◌<◌, ◌≤◌, Bool, true, false, if◌then◌else◌, Some, None, List, sym, ap, subst, ⊎_elim, arith}
 use Rattle.std.proofs.lemmas.Bool.{cases_lt}
 use Rattle.std.proofs.lemmas.List.{get_or_past}
 use Rattle.size_classes.specs.Classes.{sizes, class_size}
@@ -7,7 +7,7 @@ use Rattle.size_classes.proofs.Spacing.{class_size-aligned}
 use Rattle.image_tables.specs.Tables.{Tables, tables_of}
 use Rattle.heap_model.specs.Machine.{Range}
 use Rattle.heap_check.specs.Heap.{is_large, size_at, heap}
-use Rattle.gc_check.specs.Heap.{gc_tables, gc_heap}
+use Rattle.gc_check.specs.Heap.{address_field, class_field, gc_tables, gc_heap}
 use Rattle.gc_check.proofs.Heaps.{IsNamed-heap}
 use Rattle.gc_map.specs.GcRules.{gc_rules}
 use Rattle.heap_map.specs.LogRules.{log_rules}
@@ -50,7 +50,8 @@ block_dump words root text is = record { dump = is; whole = block_aligned (table
 gc_aligned : (t : Tables) (root : ℕ) (range : Range) → gc_heap t root ≡ Some range → range.size % 16 ≡ 0
 gc_aligned t root range is =
     let size = ap (λ (r : Range). r.size) (IsNamed-heap t root range is).is in
-    subst (λ s. s % 16 ≡ 0) (sym size) (either _ _ _ (omega arith) (class_aligned _))
+    let word = t.word root in
+    subst (λ s. s % 16 ≡ 0) (sym size) (either (class_field word == 0) (16384 * t.large (address_field word / 16384)) (class_size (class_field word - 1)) (omega arith) (class_aligned (class_field word - 1)))
 
 pub gc_block_dump : (words : List ℕ) (root : ℕ) (text : List ℕ) → IsDump gc_rules words root text → IsGcBlockDump words root text
 gc_block_dump words root text is = record { dump = is; whole = gc_aligned (gc_tables words) root is.range is.named }

@@ -35,7 +35,7 @@ module _ (r : MapRules) (form : Form) (words : List ℕ) (header : PoolHeader) w
   told_all text adds = record {
     told = adds.own;
     each = adds.told;
-    is = ap (λ (t : List ℕ). t ++ back_of form) adds.is ∙ append_assoc (front_of form header) adds.own (back_of form);
+    is = ap (λ (t : List ℕ). t ++ back_of form) adds.is;
     grants = λ arena inside. let own = part_of words header.granules arena in greatest_request (bounds_of own) (r.tables own);
   }
 

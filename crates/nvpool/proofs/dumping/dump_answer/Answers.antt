@@ -1,12 +1,13 @@
-use Rattle.std.proofs.Common.{◌∙◌, sym, true≢false}
+use Rattle.std.proofs.Common.{refl}
+use Rattle.std.proofs.lemmas.Bool.{false≢true}
 use Rattle.nvpool.specs.Dumping.{log_dumping, gc_dumping}
 use Rattle.nvpool.proofs.Variants.{log_answer, gc_answer}
 use Rattle.nvpool.proofs.dumping.dump_answer.Goals as goal
 
 pub returns-then-has_gc_text : goal.returns-then-has_gc_text
 returns-then-has_gc_text c =
-    gc_answer (log_dumping c.args.arena c.args.root) (gc_dumping c.args.arena c.args.root) c.args.words.now c.args.bytes c.gc_dump_answer.result (c.if-has_gc_text.ensures.0 c.if-has_gc_text.true) c.gc_dump_answer.ensures
+    gc_answer (log_dumping c.args.arena c.args.root) (gc_dumping c.args.arena c.args.root) c.args.words.now c.args.bytes c.gc_dump_answer.result (c.if-has_gc_text.ensures.0 refl) c.gc_dump_answer.ensures
 
 pub returns-else-has_gc_text : goal.returns-else-has_gc_text
 returns-else-has_gc_text c =
-    log_answer (log_dumping c.args.arena c.args.root) (gc_dumping c.args.arena c.args.root) c.args.words.now c.args.bytes c.log_dump_answer.result (λ is. true≢false (sym (c.if-has_gc_text.ensures.1 is) ∙ c.if-has_gc_text.false)) c.log_dump_answer.ensures
+    log_answer (log_dumping c.args.arena c.args.root) (gc_dumping c.args.arena c.args.root) c.args.words.now c.args.bytes c.log_dump_answer.result (λ is. false≢true (c.if-has_gc_text.ensures.1 is)) c.log_dump_answer.ensures

@@ -5,4 +5,4 @@ use Rattle.nvpool.proofs.GcImages.{gc_image_of}
 use Rattle.nvpool.proofs.gc_repairing.repair_gc_pool.Goals as goal
 
 pub returns-clause-repaired : goal.returns-clause-repaired
-returns-clause-repaired c = c
+returns-clause-repaired c = c.xx
