@@ -1,5 +1,5 @@
 -- An arena of this variant behind a journal, while the calls of a trace are made on it.
-use Rattle.std.specs.Prelude.{◌≡◌, ◌⊎◌, List}
+use Rattle.std.specs.Prelude.{◌≡◌, ◌⊎◌, ℕ, List, ◌++◌, flat_map}
 use Rattle.pmem_lines.specs.Pmem.{words_of, risen}
 use Rattle.pool_layout.specs.declared.header.PoolHeader.{PoolHeader}
 use Rattle.heap_model.specs.declared.call.Entry.{Entry}
@@ -9,6 +9,7 @@ use Rattle.heap_check.specs.Image.{bounds_of}
 use Rattle.arena_core.specs.Call.{IsReady}
 use Rattle.arena_journal.specs.Journals.{begun_by}
 use Rattle.trace_text.specs.declared.call.TraceCall.{TraceCall}
+use Rattle.trace_text.specs.Report.{entry_line, arena_text}
 use Rattle.trace_runs.specs.Arenas.{bounds_for}
 use Rattle.trace_runs.specs.Calls.{AreAnswers}
 use Rattle.trace_runs.specs.Journals.{IsJournal}
@@ -16,6 +17,7 @@ use Rattle.gc_check.specs.Image.{IsGcExactImage}
 use Rattle.gc_check.specs.State.{HasGcState}
 use Rattle.gc_heap.specs.Arena.{GcState}
 use Rattle.gc_runs.specs.Arenas.{gc_formatted, IsNewGcArena}
+use Rattle.gc_runs.specs.Told.{gc_blocks_in}
 use Rattle.gc_runs.specs.Journals.{gc_words_along, IsAsGcFormatted, IsBehindLastGc}
 
 -- The journal leads from the arena as it was formatted with this header to the arena as it is: to its blocks, slabs and words, with
@@ -36,3 +38,15 @@ pub record IsGcBehind (header : PoolHeader) (journal : List Entry) (now : GcStat
 pub record HasMadeGc (first now : GcState) (calls : List TraceCall) (journal : List Entry) : Type 0 where
   pub answers : AreAnswers calls journal
   pub behind : (header : PoolHeader) → IsNewGcArena header first → IsGcBehind header journal now
+
+-- it answered them, and behind a text came the line of each of the journal's entries
+pub record HasToldGc (first now : GcState) (calls : List TraceCall) (old new : List ℕ) : Type 0 where
+  pub journal : List Entry
+  pub made : HasMadeGc first now calls journal
+  pub told : new ≡ old ++ flat_map entry_line journal
+
+-- it answered them, and behind a text came the report of the arena of this number: its journal, and its blocks as they are
+pub record HasReportedGc (first now : GcState) (calls : List TraceCall) (arena : ℕ) (old new : List ℕ) : Type 0 where
+  pub journal : List Entry
+  pub made : HasMadeGc first now calls journal
+  pub told : new ≡ old ++ arena_text arena journal (gc_blocks_in (words_of now.device))

@@ -14,12 +14,12 @@ use Rattle.pool_layout.specs.Bytes.{bytes_of_words, words_of_bytes}
 use Rattle.pool_layout.specs.Header.{fields_of, granules_in, IsHeader}
 use Rattle.pool_layout.specs.Image.{part_of, header_of_arena, IsPoolImage, IsImageOf}
 use Rattle.pool_layout.proofs.Headers.{fields_of-header_word, header_fits}
-use Rattle.pool_layout.proofs.Images.{length-part_of, part_inside}
+use Rattle.pool_layout.proofs.Images.{part_inside}
 use Rattle.pool_layout.proofs.Words.{words_of_bytes-bytes_of_words, length-bytes_of_words}
-use Rattle.heap_check.specs.Image.{header_in, IsSoundImage, IsExactImage}
+use Rattle.heap_check.specs.Image.{header_in, IsSoundImage}
 use Rattle.recover.specs.Recovered.{IsRecovered}
 use Rattle.recovery_steps.proofs.Exact.{recovers_sound_none}
-use Rattle.image_runs.specs.Repairs.{IsRepaired, IsPoolRepaired, AreWholeWords, AddsRepair}
+use Rattle.image_runs.specs.Repairs.{IsRepaired, IsPoolRepaired, AreWholeWords, AddsPart}
 
 -- one arena
 
@@ -68,43 +68,47 @@ bytes-append words own = flat_map-append (to_le_bytes w64) words own
 
 -- several arenas
 
--- the bytes are those of the first so many arenas of a pool, repaired
-pub record HasRepairs (words : List ℕ) (granules count : ℕ) (bytes : List ℕ) : Type 0 where
-  pub new : List ℕ
-  pub size : length new ≡ 2048 * granules * count
-  pub fit : AreWholeWords new
-  pub each : (arena : ℕ) → arena < count → IsRepaired (part_of words granules arena) (part_of new granules arena)
-  pub is : bytes ≡ bytes_of_words new
+module _ (Is : List ℕ → List ℕ → Type 0) where
+  -- the bytes are those of words that stand so to the first so many arenas of a pool
+  pub record HasParts (words : List ℕ) (granules count : ℕ) (bytes : List ℕ) : Type 0 where
+    pub new : List ℕ
+    pub size : length new ≡ 2048 * granules * count
+    pub fit : AreWholeWords new
+    pub each : (arena : ℕ) → arena < count → Is (part_of words granules arena) (part_of new granules arena)
+    pub is : bytes ≡ bytes_of_words new
 
--- no arena yet
-pub no_repairs : (words : List ℕ) (granules : ℕ) → HasRepairs words granules 0 []
-unfolding bytes_of_words
-no_repairs words granules = record { new = []; size = omega arith; fit = All-nil (λ word. word < 2 ^ 64); each = λ arena below. absurd (omega arith); is = refl }
+  -- no arena yet
+  pub no_parts : (words : List ℕ) (granules : ℕ) → HasParts words granules 0 []
+  unfolding bytes_of_words
+  no_parts words granules = record { new = []; size = omega arith; fit = All-nil (λ word. word < 2 ^ 64); each = λ arena below. absurd (omega arith); is = refl }
 
-module _ (words : List ℕ) (granules : ℕ) where
-  -- one arena more
-  pub repairs_more : {count : ℕ} {bytes new : List ℕ} → length (part_of words granules count) ≡ 2048 * granules → HasRepairs words granules count bytes → AddsRepair (part_of words granules count) bytes new → HasRepairs words granules (count + 1) new
-  repairs_more {count} {bytes} {new} part has adds =
-      let own = adds.own in
-      let all = has.new ++ own in
-      let long : length own ≡ 2048 * granules = adds.repaired.size ∙ part in
-      record {
-        new = all;
-        size = omega (arith, length-append has.new own, has.size, long);
-        fit = All-append (λ word. word < 2 ^ 64) has.new own has.fit adds.fit;
-        each = λ arena below. ⊎_elim
-            (λ (last : arena ≡ count). subst (λ a. IsRepaired (part_of words granules a) (part_of all granules a)) (sym last)
-            (subst (IsRepaired (part_of words granules count)) (sym (part_behind has.new own granules count has.size long)) adds.repaired))
-            (λ (other : arena ≢ count).
-            let earlier : arena < count = omega (arith, below, other) in
-            let inside : 2048 * granules * arena + 2048 * granules ≤ length has.new = omega (arith, has.size, part_inside granules count arena earlier) in
-            subst (IsRepaired (part_of words granules arena)) (sym (part_before has.new own granules arena inside)) (has.each arena earlier))
-            (cases_eq arena count);
-        is = adds.is ∙ ap (λ (bs : List ℕ). bs ++ bytes_of_words own) has.is ∙ sym (bytes-append has.new own);
-      }
+  module _ (sized : (words new : List ℕ) → Is words new → length new ≡ length words) (words : List ℕ) (granules : ℕ) where
+    -- one arena more
+    pub parts_more : {count : ℕ} {bytes new : List ℕ} → length (part_of words granules count) ≡ 2048 * granules → HasParts words granules count bytes → AddsPart Is (part_of words granules count) bytes new → HasParts words granules (count + 1) new
+    parts_more {count} {bytes} {new} part has adds =
+        let own = adds.own in
+        let all = has.new ++ own in
+        let long : length own ≡ 2048 * granules = sized (part_of words granules count) own adds.part ∙ part in
+        record {
+          new = all;
+          size = omega (arith, length-append has.new own, has.size, long);
+          fit = All-append (λ word. word < 2 ^ 64) has.new own has.fit adds.fit;
+          each = λ arena below. ⊎_elim
+              (λ (last : arena ≡ count). subst (λ a. Is (part_of words granules a) (part_of all granules a)) (sym last)
+              (subst (Is (part_of words granules count)) (sym (part_behind has.new own granules count has.size long)) adds.part))
+              (λ (other : arena ≢ count).
+              let earlier : arena < count = omega (arith, below, other) in
+              let inside : 2048 * granules * arena + 2048 * granules ≤ length has.new = omega (arith, has.size, part_inside granules count arena earlier) in
+              subst (Is (part_of words granules arena)) (sym (part_before has.new own granules arena inside)) (has.each arena earlier))
+              (cases_eq arena count);
+          is = adds.is ∙ ap (λ (bs : List ℕ). bs ++ bytes_of_words own) has.is ∙ sym (bytes-append has.new own);
+        }
+
+pub repaired_size : (words new : List ℕ) → IsRepaired words new → length new ≡ length words
+repaired_size words new is = is.size
 
 -- all of them are the image of the pool
-pub pool_repaired : (words : List ℕ) (header : PoolHeader) (bytes : List ℕ) → IsPoolImage words header → HasRepairs words header.granules header.arenas bytes → IsPoolRepaired words header bytes
+pub pool_repaired : (words : List ℕ) (header : PoolHeader) (bytes : List ℕ) → IsPoolImage words header → HasParts IsRepaired words header.granules header.arenas bytes → IsPoolRepaired words header bytes
 pool_repaired words header bytes pool has = record { new = has.new; image = image; same = refl; each = has.each }
   where
     new_pool : IsPoolImage has.new header

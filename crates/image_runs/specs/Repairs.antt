@@ -32,17 +32,12 @@ pub record IsRepaired (words new : List ℕ) : Type 0 where
   pub recovery : HasRecoveryOf words new
   pub still : IsExactImage words → new ≡ words
 
--- the bytes are the image of a pool with this header, and the words of each of its arenas are such ones of those of the arena in
--- these words
-pub record IsPoolWith (Is : List ℕ → List ℕ → Type 0) (words : List ℕ) (header : PoolHeader) (bytes : List ℕ) : Type 0 where
+-- All arenas of a pool with this header are sound, and the bytes are the image of the pool with each of them repaired.
+pub record IsPoolRepaired (words : List ℕ) (header : PoolHeader) (bytes : List ℕ) : Type 0 where
   pub new : List ℕ
   pub image : IsImageOf bytes new
   pub same : image.header ≡ header
-  pub each : (arena : ℕ) → arena < header.arenas → Is (part_of words header.granules arena) (part_of new header.granules arena)
-
--- All arenas of a pool are sound, and the bytes are the image of the pool with each of them repaired.
-abbrev pub IsPoolRepaired : List ℕ → PoolHeader → List ℕ → Type 0
-IsPoolRepaired = IsPoolWith IsRepaired
+  pub each : (arena : ℕ) → arena < header.arenas → IsRepaired (part_of words header.granules arena) (part_of new header.granules arena)
 
 -- for the functions below
 
@@ -50,9 +45,9 @@ IsPoolRepaired = IsPoolWith IsRepaired
 abbrev pub AreWholeWords : List ℕ → Type 0
 AreWholeWords words = All (λ word. word < 2 ^ 64) words
 
--- the bytes of a repaired arena of these words are added behind others
-pub record AddsRepair (words old new : List ℕ) : Type 0 where
+-- the bytes of words that stand so to an arena's are added behind others
+pub record AddsPart (Is : List ℕ → List ℕ → Type 0) (words old new : List ℕ) : Type 0 where
   pub own : List ℕ
-  pub repaired : IsRepaired words own
+  pub part : Is words own
   pub fit : AreWholeWords own
   pub is : new ≡ old ++ bytes_of_words own

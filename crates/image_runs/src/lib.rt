@@ -7,7 +7,8 @@
 // the words; `recover_arena` is what `recover` does for each arena, and has the lines of the heap (`specs/Recoveries.antt`).
 // `migrate_pool` is what `migrate` does: it gives the bytes of one migration of each arena, or why there is none
 // (`specs/Migrations.antt`). `repair_pool` is what `repair` does, which has no shelf: each arena is recovered on a device of its own,
-// one at a time, and the bytes of all are the image of the pool once nothing in it is loose (`specs/Repairs.antt`). `add_bytes` makes bytes of words, piece by piece.
+// one at a time, and the bytes of all are the image of the pool once nothing in it is loose (`specs/Repairs.antt`). `pool_buffers` and
+// `add_bytes` make bytes of words, piece by piece.
 #![tactic(auto)]
 
 mod bytes;
@@ -20,4 +21,4 @@ pub use bytes::{add_bytes, new_piece};
 pub use checking::check_pool;
 pub use migrating::{PoolMigrateFault, migrate_pool};
 pub use recovering::{Recovered, recover_arena, recover_heap};
-pub use repairing::repair_pool;
+pub use repairing::{are_whole_words, pool_buffers, repair_pool};

@@ -5,7 +5,7 @@ ghost use Rattle.pool_layout.specs.Image.{IsPoolImage, IfDefect};
 ghost use Rattle.image_defects.specs.Defects.{IsFirstDefect};
 ghost use Rattle.recover.specs.Faults.{IfDefect as IfRecoverDefect};
 ghost use Rattle.image_runs.specs.Checks.{HasUnsoundFrom, IsOwnDefect};
-ghost use Rattle.image_runs.specs.Repairs.{IsRepaired, IsPoolRepaired, AddsRepair, AreWholeWords};
+ghost use Rattle.image_runs.specs.Repairs.{IsRepaired, IsPoolRepaired, AddsPart, AreWholeWords};
 
 use crate::bytes::{add_bytes, new_piece};
 use crate::recovering::fault_at;
@@ -27,7 +27,7 @@ pub fn repair_pool(alloc: Global, header: &PoolHeader, words: &[u64]) -> Result<
     ensures repaired { IfOk result (λ bytes. IsPoolRepaired words.now header.now bytes.items) }
     ensures unsound { IfErr result (λ fault. IfDefect fault (HasUnsoundFrom words.now header.now 0)) }
 {
-    let (mut bytes, mut piece) = match buffers(alloc, header) {
+    let (mut bytes, mut piece) = match pool_buffers(alloc, header) {
         Ok(buffers) => buffers,
         Err(error) => return Err(ImageFault::Memory(error)),
     };
@@ -41,8 +41,8 @@ pub fn repair_pool(alloc: Global, header: &PoolHeader, words: &[u64]) -> Result<
     Ok(bytes)
 }
 
-// Room for the bytes of a pool, and a buffer for a piece of them.
-fn buffers(alloc: Global, header: &PoolHeader) -> Result<(Vec<u8>, Vec<u8>), OutOfMemory>
+/// Room for the bytes of a pool, and a buffer for a piece of them.
+pub fn pool_buffers(alloc: Global, header: &PoolHeader) -> Result<(Vec<u8>, Vec<u8>), OutOfMemory>
     requires arenas { header.now.arenas ≤ 16 }
     requires granules { header.now.granules ≤ 4096 }
     ensures bytes { IfOk result (λ both. both.0.items ≡ []) }
@@ -66,7 +66,7 @@ fn add_repair(
     requires some { 8 ≤ length words.now }
     requires few { length words.now ≤ 8388608 }
     requires piece { length piece.old ≡ 4096 }
-    ensures added { OnOk result (AddsRepair words.now bytes.old.items bytes.new.items) }
+    ensures added { OnOk result (AddsPart IsRepaired words.now bytes.old.items bytes.new.items) }
     ensures piece { length piece.new ≡ 4096 }
     ensures defect { IfErr result (λ fault. IfDefect fault (IsOwnDefect words.now arena)) }
 {
@@ -97,8 +97,8 @@ fn repaired_device(alloc: Global, words: &[u64]) -> Result<SimPmem, RecoverFault
     }
 }
 
-// Words are of 64 bits each, as their type has it, which is known of a word that was read.
-fn are_whole_words(words: &[u64])
+/// Words are of 64 bits each, as their type has it, which is known of a word that was read.
+pub fn are_whole_words(words: &[u64])
     ensures { AreWholeWords words.now }
 {
     for i in 0..words.len() {

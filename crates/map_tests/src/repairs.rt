@@ -100,9 +100,18 @@ const LOG_ROLL_2: Cut = Cut {
     roots: &[0, 1],
 };
 
-const BLOCKS: [Cut; 4] = [SMALL_MALLOC, LARGE_MALLOC, FREE, MOVE];
+const COMING: [Cut; 2] = [SMALL_MALLOC, LARGE_MALLOC];
 
-const SLABS: [Cut; 4] = [CLASS, LAST_OLD_BLOCK, SLAB_OPENED, SLAB_DROPPED];
+const LEAVING: [Cut; 2] = [FREE, MOVE];
+
+const CLASSES: [Cut; 2] = [CLASS, LAST_OLD_BLOCK];
+
+const SLABS: [Cut; 2] = [SLAB_OPENED, SLAB_DROPPED];
+
+/// The first lines of pools of one arena, of either version.
+const FIRST: &str = "pool 1 16";
+
+const SECOND: &str = "pool2 1 25";
 
 /// In the image of an arena so many things are loose.
 fn has_loose<R: Abort>(
@@ -156,30 +165,53 @@ fn stays<R: Abort>(rt: &R, alloc: Global, size: usize, runs: &[Run]) -> Result<(
 }
 
 #[test]
-fn a_block_that_was_under_way_is_mended(rt: HostRuntime) -> Result<(), Fail> {
-    all_mend(&rt, rt.alloc(), "pool 1 16", &BLOCKS)
+fn a_block_that_was_coming_is_mended(rt: HostRuntime) -> Result<(), Fail> {
+    all_mend(&rt, rt.alloc(), FIRST, &COMING)
 }
 
 #[test]
-fn a_block_of_version_2_is_mended(rt: HostRuntime) -> Result<(), Fail> {
-    all_mend(&rt, rt.alloc(), "pool2 1 25", &BLOCKS)
+fn a_block_that_was_coming_is_mended_in_version_2(rt: HostRuntime) -> Result<(), Fail> {
+    all_mend(&rt, rt.alloc(), SECOND, &COMING)
 }
 
 #[test]
-fn a_slab_that_was_under_way_is_mended(rt: HostRuntime) -> Result<(), Fail> {
-    all_mend(&rt, rt.alloc(), "pool 1 16", &SLABS)
+fn a_block_that_was_leaving_is_mended(rt: HostRuntime) -> Result<(), Fail> {
+    all_mend(&rt, rt.alloc(), FIRST, &LEAVING)
 }
 
 #[test]
-fn a_slab_of_version_2_is_mended(rt: HostRuntime) -> Result<(), Fail> {
-    all_mend(&rt, rt.alloc(), "pool2 1 25", &SLABS)
+fn a_block_that_was_leaving_is_mended_in_version_2(rt: HostRuntime) -> Result<(), Fail> {
+    all_mend(&rt, rt.alloc(), SECOND, &LEAVING)
+}
+
+#[test]
+fn a_slab_that_was_taking_a_class_is_mended(rt: HostRuntime) -> Result<(), Fail> {
+    all_mend(&rt, rt.alloc(), FIRST, &CLASSES)
+}
+
+#[test]
+fn a_slab_that_was_taking_a_class_is_mended_in_version_2(rt: HostRuntime) -> Result<(), Fail> {
+    all_mend(&rt, rt.alloc(), SECOND, &CLASSES)
+}
+
+#[test]
+fn a_slab_that_was_coming_or_going_is_mended(rt: HostRuntime) -> Result<(), Fail> {
+    all_mend(&rt, rt.alloc(), FIRST, &SLABS)
+}
+
+#[test]
+fn a_slab_that_was_coming_or_going_is_mended_in_version_2(rt: HostRuntime) -> Result<(), Fail> {
+    all_mend(&rt, rt.alloc(), SECOND, &SLABS)
 }
 
 #[test]
 fn a_log_that_was_rolling_is_mended(rt: HostRuntime) -> Result<(), Fail> {
-    let alloc = rt.alloc();
-    mends(&rt, alloc, "pool 1 16", &LOG_ROLL)?;
-    mends(&rt, alloc, "pool2 1 25", &LOG_ROLL_2)
+    mends(&rt, rt.alloc(), FIRST, &LOG_ROLL)
+}
+
+#[test]
+fn a_log_that_was_rolling_is_mended_in_version_2(rt: HostRuntime) -> Result<(), Fail> {
+    mends(&rt, rt.alloc(), SECOND, &LOG_ROLL_2)
 }
 
 #[test]

@@ -10,4 +10,5 @@ pub mod Told
 pub mod Aligned
 pub mod Dumps
 pub mod GcDumps
+pub mod GcRepairs
 pub mod Cuts

@@ -13,6 +13,7 @@ use Rattle.nvpool.specs.declared.telling.Form.{Form}
 use Rattle.nvpool.specs.declared.telling.Form.TheVariants.{Numbers, Letters, Picture}
 use Rattle.nvpool.specs.Telling.{log_telling, gc_telling, telling}
 use Rattle.nvpool.specs.Dumping.{log_dumping, gc_dumping, dumping}
+use Rattle.nvpool.specs.Repairing.{log_repairing, gc_repairing, repairing}
 use Rattle.nvpool.proofs.Variants.{either_settled}
 use Rattle.nvpool.proofs.GcImages.{log_text, gc_image_not_refused, gc_dump_not_refused}
 use Rattle.nvpool.proofs.Refusals.{image_not_refused, dump_not_refused, cut_not_refused}
@@ -51,13 +52,16 @@ dump_settled : (arena root : ℕ) (input : List ℕ) (why : Cause) → (dumping 
 dump_settled arena root =
     either_settled (log_dumping arena root) (gc_dumping arena root) (dump_not_refused arena root) (gc_dump_not_refused arena root) (λ input has. log_text input has.words has.image) (λ input has. text_of input has.words has.image)
 
+repair_settled : (input : List ℕ) (why : Cause) → repairing.accepts input → ¬ (repairing.refuses input why)
+repair_settled = either_settled log_repairing gc_repairing image_not_refused gc_image_not_refused (λ input has. log_text input has.words has.image) (λ input has. text_of input has.words has.image)
+
 pub settled : (command : Command) (input : List ℕ) (why : Cause) → (meaning_of command).accepts input → ¬ ((meaning_of command).refuses input why)
 settled Map input why has = told_settled Picture input why has
 settled Text input why has = told_settled Letters input why has
 settled Info input why has = told_settled Numbers input why has
 settled (Dump arena root) input why has = dump_settled arena root input why has
 settled (Cut arena event seed) input why has = cut_not_refused arena event input why has
-settled Repair input why has = image_not_refused input why has
+settled Repair input why has = repair_settled input why has
 
 -- one command
 

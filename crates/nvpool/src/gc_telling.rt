@@ -40,12 +40,7 @@ pub(crate) fn gc_told_answer(
 
 // What is told of each arena of a pool of the GC variant, of which these are the words, and which has so many bytes. `Defect`
 // names the first defect of the bytes, else that of the lowest arena that is not sound.
-fn tell_gc_pool(
-    alloc: Global,
-    form: Form,
-    words: &[u64],
-    bytes: u64,
-) -> Result<Vec<u8>, ImageFault>
+fn tell_gc_pool(alloc: Global, form: Form, words: &[u64], bytes: u64) -> Result<Vec<u8>, ImageFault>
     requires { AreWords words.now bytes }
     ensures told { IfOk result (λ text. (image : List ℕ) → AreWordsOf words.now bytes image → IsGcTold form image text.items) }
     ensures defect { IfErr result (λ fault. (image : List ℕ) → AreWordsOf words.now bytes image → IfDefect fault (IsGcPoolDefect image)) }

@@ -1,21 +1,21 @@
-use Rattle.std.proofs.Common.{◌≡◌, ◌∙◌, ◌*◌, ◌≤◌, ◌++◌, List, ℕ, length, drop, ap, arith, subst, sym, length-append}
+use Rattle.std.proofs.Common.{◌≡◌, ◌∙◌, ◌*◌, ◌++◌, List, ℕ, length, drop, ap, arith, subst, sym, length-append}
 use Rattle.std.proofs.lemmas.List.{length-take-le}
 use Rattle.pool_layout.specs.Image.{part_of}
 use Rattle.pool_layout.proofs.Images.{length-part_of}
 use Rattle.pool_layout.proofs.Layouts.{layout_rules}
 use Rattle.image_defects.specs.Defects.{IsFirstDefect}
 use Rattle.image_runs.specs.Checks.{HasUnsoundFrom, IsOwnDefect}
-use Rattle.image_runs.specs.Repairs.{AddsRepair}
+use Rattle.image_runs.specs.Repairs.{IsRepaired, AddsPart}
 use Rattle.image_runs.proofs.Faults.{wider}
-use Rattle.image_runs.proofs.Repairs.{HasRepairs, no_repairs, repairs_more, pool_repaired}
+use Rattle.image_runs.proofs.Repairs.{HasParts, no_parts, parts_more, repaired_size, pool_repaired}
 use Rattle.image_runs.proofs.repairing.repair_pool.Goals as goal
 
-pub buffers-requires-clause-granules : goal.buffers-requires-clause-granules
-buffers-requires-clause-granules c = omega (arith, c.requires.first.valid.greatest, (layout_rules c.args.header.now.version).most)
+pub pool_buffers-requires-clause-granules : goal.pool_buffers-requires-clause-granules
+pool_buffers-requires-clause-granules c = omega (arith, c.requires.first.valid.greatest, (layout_rules c.args.header.now.version).most)
 
 pub loop-arena-init : goal.loop-arena-init
 loop-arena-init c = record {
-  done = subst (HasRepairs c.args.words.now c.args.header.now.granules 0) (sym c.in-Ok.ensures.bytes) (no_repairs c.args.words.now c.args.header.now.granules);
+  done = subst (HasParts IsRepaired c.args.words.now c.args.header.now.granules 0) (sym c.in-Ok.ensures.bytes) (no_parts IsRepaired c.args.words.now c.args.header.now.granules);
   piece = c.in-Ok.ensures.piece;
 }
 
@@ -54,8 +54,8 @@ loop-arena-preserved c =
     let kept = c.in-Ok-add_repair.ensures.piece in
     let full : c.loop-arena.piece.len ≡ 4096 = sym c.deref_mut.ensures.len ∙ ap length c.deref_mut.ensures.value ∙ c.loop-arena.invariant.piece in
     record {
-      done = repairs_more words header.granules (length-part_of words header.granules header.arenas k c.requires.size c.loop-arena-test.true) c.loop-arena.invariant.done
-          (subst (λ (ws : List ℕ). AddsRepair ws c.loop-arena.bytes.items c.add_repair.new.bytes.items) c.parts-own.ensures c.in-Ok-add_repair.ensures.added);
+      done = parts_more IsRepaired repaired_size words header.granules (length-part_of words header.granules header.arenas k c.requires.size c.loop-arena-test.true) c.loop-arena.invariant.done
+          (subst (λ (ws : List ℕ). AddsPart IsRepaired ws c.loop-arena.bytes.items c.add_repair.new.bytes.items) c.parts-own.ensures c.in-Ok-add_repair.ensures.added);
       piece = length-take-le c.loop-arena.piece.len (used ++ drop (length used) c.loop-arena.piece.items) (omega (arith, length-append used (drop (length used) c.loop-arena.piece.items), kept, full)) ∙ full;
     }
 
@@ -64,4 +64,4 @@ returns-clause-repaired c =
     let header = c.args.header.now in
     let bytes = c.loop-arena.bytes.items in
     let all : c.loop-arena.arena ≡ header.arenas = omega (arith, c.loop-arena-test.false, c.loop-arena.auto.arena-end) in
-    pool_repaired c.args.words.now header bytes c.requires (subst (λ n. HasRepairs c.args.words.now header.granules n bytes) all c.loop-arena.invariant.done)
+    pool_repaired c.args.words.now header bytes c.requires (subst (λ n. HasParts IsRepaired c.args.words.now header.granules n bytes) all c.loop-arena.invariant.done)

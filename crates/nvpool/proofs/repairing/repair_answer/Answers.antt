@@ -1,27 +1,12 @@
-use Rattle.std.proofs.Common.{inl, inr}
-use Rattle.image_runs.proofs.Faults.{image_of}
-use Rattle.nvpool.specs.declared.cause.Cause.TheVariants.{Image}
-use Rattle.nvpool.specs.Repairing.{repairing}
-use Rattle.nvpool.proofs.Answering.{refused_image}
+use Rattle.std.proofs.Common.{◌∙◌, sym, true≢false}
+use Rattle.nvpool.specs.Repairing.{log_repairing, gc_repairing}
+use Rattle.nvpool.proofs.Variants.{log_answer, gc_answer}
 use Rattle.nvpool.proofs.repairing.repair_answer.Goals as goal
 
-pub returns-in-Err : goal.returns-in-Err
-returns-in-Err c =
-    refused_image repairing c.args.words.now c.args.bytes (Image c.in-Err.found.arena c.in-Err.found.defect) c.fault_line.result (λ image are. inl (c.in-Err.ensures.defect image are)) c.fault_line.ensures
+pub returns-then-has_gc_text : goal.returns-then-has_gc_text
+returns-then-has_gc_text c =
+    gc_answer log_repairing gc_repairing c.args.words.now c.args.bytes c.gc_repair_answer.result (c.if-has_gc_text.ensures.0 c.if-has_gc_text.true) c.gc_repair_answer.ensures
 
-pub returns-in-Ok-repair_pool : goal.returns-in-Ok-repair_pool
-returns-in-Ok-repair_pool c image are = record {
-  words = c.args.words.now;
-  image = image_of image c.args.words.now c.args.bytes c.in-Ok.header are c.in-Ok.ensures.whole c.in-Ok.ensures.pool;
-  repaired = c.in-Ok-repair_pool.ensures.repaired;
-}
-
-pub returns-in-Err-Defect : goal.returns-in-Err-Defect
-returns-in-Err-Defect c =
-    refused_image repairing c.args.words.now c.args.bytes (Image c.in-Err-Defect.arena c.in-Err-Defect.defect) c.fault_line-in-Err-Defect.result
-    (λ image are. inr (record {
-      words = c.args.words.now;
-      image = image_of image c.args.words.now c.args.bytes c.in-Ok.header are c.in-Ok.ensures.whole c.in-Ok.ensures.pool;
-      unsound = rw c.in-Err-Defect.field-0-is at c.in-Err-Defect.ensures.unsound;
-    }))
-    c.fault_line-in-Err-Defect.ensures
+pub returns-else-has_gc_text : goal.returns-else-has_gc_text
+returns-else-has_gc_text c =
+    log_answer log_repairing gc_repairing c.args.words.now c.args.bytes c.log_repair_answer.result (λ is. true≢false (sym (c.if-has_gc_text.ensures.1 is) ∙ c.if-has_gc_text.false)) c.log_repair_answer.ensures
