@@ -1,12 +1,10 @@
 -- Images of pools of the GC variant: no image is of both variants, and none whose arenas are sound has a defect.
-use Rattle.std.proofs.Common.{◌≡◌, ◌≢◌, ◌⊎◌, ℕ, ◌+◌, ◌*◌, ◌<◌, ◌≤◌, List, length, Result, Ok, Err, refl, sym, ap, subst, ◌∙◌, arith, inl, inr}
-use Rattle.std.specs.Result.{IfErr}
+use Rattle.std.proofs.Common.{◌≡◌, ◌≢◌, ℕ, ◌+◌, ◌*◌, ◌<◌, List, length, sym, ap, subst, ◌∙◌, arith, inl, inr}
 use Rattle.pmem_lines.specs.Words.{word_at}
 use Rattle.pool_layout.specs.declared.header.PoolHeader.{PoolHeader}
 use Rattle.pool_layout.specs.declared.defect.Defect.{Defect}
 use Rattle.pool_layout.specs.Places.{text_word}
 use Rattle.pool_layout.specs.Header.{header_text}
-use Rattle.pool_layout.specs.Bytes.{words_of_bytes}
 use Rattle.pool_layout.specs.Image.{part_of, AreWordsOf, IsImageOf}
 use Rattle.pool_layout.proofs.Images.{some_granules, word_at-part_of}
 use Rattle.gc_check.specs.Header.{gc_text}

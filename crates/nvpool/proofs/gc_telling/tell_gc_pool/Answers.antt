@@ -1,4 +1,4 @@
-use Rattle.std.proofs.Common.{arith, sym, inl, inr, subst}
+use Rattle.std.proofs.Common.{arith, sym, inr, subst}
 use Rattle.pool_layout.proofs.Layouts.{layout_rules}
 use Rattle.image_runs.proofs.Faults.{wider}
 use Rattle.gc_map.specs.GcRules.{gc_rules}
