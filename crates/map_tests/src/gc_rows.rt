@@ -205,6 +205,11 @@ arena 0 live 1
 arena 0 loose 1
 ";
 
+const WORDS_OF_ROOT_6: &str = "00010890 0000000000000000 0000000000000000
+000108a0 0000000000000000 0000000000000000
+000108b0 0000000000000000 0000000000000000
+";
+
 #[test]
 fn text_of_the_gc_variant(rt: HostRuntime) -> Result<(), Fail> {
     let alloc = rt.alloc();
@@ -219,6 +224,31 @@ fn text_of_a_cut_in_the_gc_variant(rt: HostRuntime) -> Result<(), Fail> {
     let alloc = rt.alloc();
     tells(&rt, alloc, "text", SMALL, &IN_MALLOC, 0, TEXT_OF_MALLOC)?;
     tells(&rt, alloc, "text", SMALL, &IN_FREE, 0, TEXT_OF_FREE)
+}
+
+// The size of a block is that of its own class, and not that of its slab's.
+#[test]
+fn dump_of_the_gc_variant(rt: HostRuntime) -> Result<(), Fail> {
+    let alloc = rt.alloc();
+    tells(&rt, alloc, "dump 0 6", SMALL, &MIXED, 0, WORDS_OF_ROOT_6)?;
+    tells(
+        &rt,
+        alloc,
+        "dump 0 8",
+        SMALL,
+        &MIXED,
+        2,
+        "arena 0 no block 8\n",
+    )?;
+    tells(
+        &rt,
+        alloc,
+        "dump 1 6",
+        SMALL,
+        &MIXED,
+        2,
+        "no arena 1 of 1\n",
+    )
 }
 
 #[test]
