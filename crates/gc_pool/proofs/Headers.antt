@@ -1,13 +1,12 @@
 -- The header of a pool, by its numbers.
-use Rattle.std.proofs.Common.{◌≡◌, ◌≢◌, ℕ, ◌*◌, ◌<◌, ◌≤◌, List, [], ◌∷◌, length, refl, arith, ap, subst, sym, ◌∙◌}
+use Rattle.std.proofs.Common.{◌≡◌, ◌≢◌, ℕ, ◌≤◌, List, [], ◌∷◌, length, refl, arith, ap, subst, sym, ◌∙◌}
 use Rattle.std.proofs.lemmas.Nat.{mul-le}
 use Rattle.pmem_lines.specs.Words.{word_at}
 use Rattle.pool_layout.specs.declared.header.PoolHeader.{PoolHeader}
-use Rattle.pool_layout.specs.declared.defect.Defect.{Defect}
 use Rattle.pool_layout.specs.declared.defect.Defect.TheVariants.{BadHeader}
 use Rattle.pool_layout.specs.Layout.{layout_of, all_granules, pool_granules}
 use Rattle.pool_layout.specs.Places.{text_word, fields_word}
-use Rattle.pool_layout.specs.Header.{fields_of, header_word}
+use Rattle.pool_layout.specs.Header.{fields_of}
 use Rattle.pool_layout.proofs.Headers.{fields_of-header_word, header_fits}
 use Rattle.gc_check.specs.Header.{gc_text}
 use Rattle.gc_pool.specs.Image.{IsFirstGcHeader, IsFirstGcFields, HasOtherFields, IsBehindText}

@@ -1,5 +1,5 @@
 -- The image of a pool has no defect.
-use Rattle.std.proofs.Common.{◌≡◌, ◌≢◌, ℕ, ◌+◌, ◌*◌, ◌<◌, ◌≤◌, List, length, sym, ap, ◌∙◌, subst, inl, inr, arith}
+use Rattle.std.proofs.Common.{◌≡◌, ℕ, ◌<◌, ◌≤◌, List, length, sym, ap, ◌∙◌, subst, inl, inr, arith}
 use Rattle.std.proofs.Math.Nat.{mul-le-mul_left}
 use Rattle.pmem_lines.specs.Words.{word_at}
 use Rattle.pool_layout.specs.declared.header.PoolHeader.{PoolHeader}
@@ -10,7 +10,7 @@ use Rattle.pool_layout.specs.Bytes.{words_of_bytes}
 use Rattle.pool_layout.specs.Image.{part_of, header_of_arena, image_length}
 use Rattle.pool_layout.proofs.Images.{some_granules}
 use Rattle.gc_check.specs.Header.{gc_text, IsGcHeader}
-use Rattle.gc_pool.specs.Image.{IsFirstGcHeader, IsGcPoolImage, IsGcImageOf, IsFirstGcLine, IsFirstGcFields, IsBadLine, IsGcImageDefect}
+use Rattle.gc_pool.specs.Image.{IsFirstGcHeader, IsGcImageOf, IsFirstGcLine, IsFirstGcFields, IsBadLine, IsGcImageDefect}
 use Rattle.gc_pool.proofs.Pools.{first_line, header_said}
 
 -- a line whose words are good has no bad one

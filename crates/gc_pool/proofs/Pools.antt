@@ -10,7 +10,7 @@ use Rattle.pool_layout.specs.Image.{part_of, header_of_arena, image_length}
 use Rattle.pool_layout.proofs.Headers.{fields_of-header_word, header_fits}
 use Rattle.pool_layout.proofs.Images.{some_granules, length-part_of, word_at-part_of}
 use Rattle.gc_check.specs.Header.{IsGcPoolHeader, IsGcHeader}
-use Rattle.gc_pool.specs.Image.{IsFirstGcHeader, IsGcPoolImage, IsGcImageOf, IsFirstGcLine, IsBadLine, HasBadArena, IsBehindText}
+use Rattle.gc_pool.specs.Image.{IsFirstGcHeader, IsGcPoolImage, IsFirstGcLine, IsBadLine, HasBadArena, IsBehindText}
 
 -- each arena of a pool may have its header
 pub arena_header_valid : (header : PoolHeader) (arena : ℕ) → IsFirstGcHeader header → arena < header.arenas → IsGcPoolHeader (header_of_arena header arena)

@@ -1,7 +1,6 @@
 use Rattle.std.proofs.lemmas.Result.{err_from_is_err_and}
-use Rattle.std.proofs.Common.{inl, inr, sym, ◌∙◌, ap, refl}
+use Rattle.std.proofs.Common.{inl, inr, sym, ◌∙◌, refl}
 use Rattle.std.proofs.lemmas.Bool.{false≢true}
-use Rattle.pool_layout.specs.Header.{fields_of}
 use Rattle.gc_pool.specs.Image.{IsFirstGcHeader, IsFirstGcFields}
 use Rattle.gc_pool.proofs.Headers.{no_first, bad_fields}
 use Rattle.gc_pool.proofs.header.first_header.Goals as goal
