@@ -24,4 +24,4 @@ RefusesImage input (Image arena defect) = IsPoolDefect input arena defect
 RefusesImage input cause = ⊥
 
 abbrev pub checking : Meaning
-checking = record (of_input kinds.Pool AnswersCheck RefusesImage HasSoundArenas) { idle = true }
+checking = record (of_input kinds.Image AnswersCheck RefusesImage HasSoundArenas) { idle = true }

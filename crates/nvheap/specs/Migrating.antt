@@ -45,4 +45,4 @@ pub record HasSoundFirst (input : List ℕ) : Type 0 where
   pub first : arenas.image.header.version ≡ 1
 
 abbrev pub migrating : Meaning
-migrating = record (of_input kinds.Pool AnswersMigrate RefusesMigrate HasSoundFirst) { idle = true }
+migrating = record (of_input kinds.Image AnswersMigrate RefusesMigrate HasSoundFirst) { idle = true }

@@ -31,4 +31,4 @@ abbrev pub MakesAll : List ℕ → ℕ → ℕ → Type 0
 MakesAll input old new = (words : List ℕ) × (image : IsImageOf input words) × (new ≡ risen old image.header.arenas)
 
 abbrev pub recovering : Meaning
-recovering = record (of_input kinds.Pool AnswersRecover RefusesImage HasSoundArenas) { recovers = true; images = MakesAll }
+recovering = record (of_input kinds.Image AnswersRecover RefusesImage HasSoundArenas) { recovers = true; images = MakesAll }

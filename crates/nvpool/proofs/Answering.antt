@@ -1,6 +1,6 @@
 -- What a command has to say, from what its parts say.
 use Rattle.std.proofs.Common.{ℕ, List, Result, Ok, Err}
-use Rattle.std.specs.Result.{IfOk}
+use Rattle.std.specs.Result.{IfOk, IfErr}
 use Rattle.pool_layout.specs.Image.{AreWordsOf}
 use Rattle.trace_text.specs.declared.call.Refusal.TheVariants.{BadLine}
 use Rattle.program_io.specs.declared.answer.Answer.{Answer}
@@ -14,6 +14,11 @@ use Rattle.nvpool.specs.Ends.{IsAnswer, IsFaultLine, IsBadLine}
 pub ok_more : {X E : Type 0} (r : Result X E) (P Q : X → Type 0) → ((x : X) → P x → Q x) → IfOk r P → IfOk r Q
 ok_more (Ok x) P Q more is = more x is
 ok_more (Err e) P Q more is = tt
+
+-- and so does what an Err says
+pub err_more : {X E : Type 0} (r : Result X E) (P Q : E → Type 0) → ((e : E) → P e → Q e) → IfErr r P → IfErr r Q
+err_more (Ok x) P Q more is = tt
+err_more (Err e) P Q more is = more e is
 
 -- a line that says why is the answer where the cause holds
 refused_by : (m : Meaning) (input : List ℕ) (why : Cause) (answer : Answer) → m.refuses input why → IsFaultLine why answer → IsAnswer m input answer
