@@ -14,8 +14,8 @@ returns-in-Ok-clause-ends g c =
     let told = told_by g.S.Source.left g.K.Sink.taken g.H.Shelf.places g.H.Shelf.images in
     let places = g.H.Shelf.places in
     let images = g.H.Shelf.images in
-    let read : IsRead (limit_of meaning.reads) (g.S.Source.left c.args.source.now) (g.S.Source.left c.read_input.new.source) (Text c.in-Ok-Text.text) = rw c.in-Ok-Text.field-0-is at c.in-Ok-Text.ensures.read in
-    ends_written meaning (told c.args.source.now c.args.sink.now c.args.shelf.now) (told c.read_input.new.source c.write_answer.new.sink c.report_answer.new.shelf) read.bytes
+    let read : IsRead (limit_of meaning.reads) (g.S.Source.left c.args.source.now) (g.S.Source.left c.input_of.new.source) (Text c.in-Ok-Text.text) = rw c.in-Ok-Text.field-0-is at c.in-Ok-Text.ensures.read in
+    ends_written meaning (told c.args.source.now c.args.sink.now c.args.shelf.now) (told c.input_of.new.source c.write_answer.new.sink c.report_answer.new.shelf) read.bytes
     c.in-Ok.answer c.write_answer.result read.read
     (subst (λ (bytes : List ℕ). IsAnswer meaning bytes (places c.args.shelf.now) (places c.report_answer.new.shelf) c.in-Ok.answer) read.has c.in-Ok.ensures.answer)
     (counts_kept meaning read.bytes (images c.args.shelf.now) (images c.report_answer.new.shelf) c.in-Ok.answer (λ same. same) c.in-Ok.ensures.images)
