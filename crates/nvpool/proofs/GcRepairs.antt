@@ -1,5 +1,5 @@
 -- The repairs of the arenas of a pool of the GC variant.
-use Rattle.std.proofs.Common.{◌≡◌, ℕ, ◌*◌, ◌<◌, List, [], ◌++◌, length, refl, sym, ap, subst, ◌∙◌, arith, ⊎_elim}
+use Rattle.std.proofs.Common.{◌≡◌, ℕ, List, [], ◌++◌, length, refl, sym, ap, subst, ◌∙◌, arith, ⊎_elim}
 use Rattle.pmem_lines.specs.declared.event.Event.{Event}
 use Rattle.pmem_lines.specs.Events.{reading}
 use Rattle.pmem_lines.specs.Pmem.{PmemState, words_of, fresh}
@@ -13,31 +13,27 @@ use Rattle.heap_check.specs.Image.{header_in}
 use Rattle.gc_check.specs.Header.{IsGcHeader}
 use Rattle.gc_check.specs.Image.{IsGcSoundImage, IsGcExactImage}
 use Rattle.gc_pool.specs.Image.{IsGcPoolImage, IsGcImageOf}
-use Rattle.gc_recovery_steps.specs.declared.search.Loose.TheVariants.{Large, Empty}
-use Rattle.gc_recovery_steps.specs.Recovery.{DropsLoose, GcRecovers, IsTombFor}
+use Rattle.gc_recovery_steps.specs.Recovery.{GcRecovers}
 use Rattle.gc_recover.specs.Recovered.{IsGcRecovered}
 use Rattle.image_runs.proofs.Repairs.{HasParts}
 use Rattle.nvpool.specs.Repairing.{IsGcRepaired, IsGcPoolRepaired}
 
 -- an exact image has nothing to recover
 
-large_none : (words : List ℕ) → IsGcExactImage words → (events : List Event) → DropsLoose Large words events → events ≡ []
-large_none words exact events drops = ⊎_elim
-    (λ nothing. nothing.1)
-    (λ (tomb : IsTombFor Large words events). let named = exact.exact.all_named tomb.start tomb.loose.live in absurd (tomb.loose.unnamed named.0 named.1))
-    drops
-
-empty_none : (words : List ℕ) → IsGcExactImage words → (events : List Event) → DropsLoose Empty words events → events ≡ []
-empty_none words exact events drops = ⊎_elim
-    (λ nothing. nothing.1)
-    (λ (tomb : IsTombFor Empty words events). let live = exact.exact.all_live tomb.start tomb.loose.slab in absurd (tomb.loose.none live.0 live.1 live.2))
-    drops
-
 recovers_none : (words : List ℕ) → IsGcExactImage words → (events : List Event) → GcRecovers words events → events ≡ []
 recovers_none words exact events stores =
-    let none = large_none words exact stores.front stores.large in
-    let slab = subst (λ (es : List Event). DropsLoose Empty (reading words es) stores.back) none stores.slab in
-    stores.is ∙ ap (λ (es : List Event). es ++ stores.back) none ∙ empty_none words exact stores.back slab
+    let none : stores.front ≡ [] =
+    ⊎_elim
+    (λ nothing. nothing.1)
+    (λ tomb. let named = exact.exact.all_named tomb.start tomb.loose.live in absurd (tomb.loose.unnamed named.0 named.1))
+    stores.large in
+    let slab = rw none at stores.slab in
+    let back : stores.back ≡ [] =
+    ⊎_elim
+    (λ nothing. nothing.1)
+    (λ tomb. let live = exact.exact.all_live tomb.start tomb.loose.slab in absurd (tomb.loose.none live.0 live.1 live.2))
+    slab in
+    stores.is ∙ ap (λ (es : List Event). es ++ stores.back) none ∙ back
 
 -- a device that had sound words and was recovered has repaired ones
 pub gc_repaired_words : (words : List ℕ) (room : ℕ) (device : PmemState) → IsGcSoundImage words → IsGcRecovered (fresh words room) device → IsGcRepaired words (words_of device)

@@ -1,4 +1,4 @@
-use Rattle.std.proofs.Common.{◌≡◌, ◌∙◌, ◌*◌, ◌≤◌, ◌++◌, List, ℕ, length, drop, ap, arith, subst, sym, length-append}
+use Rattle.std.proofs.Common.{◌≡◌, ◌∙◌, ◌*◌, ◌++◌, List, ℕ, length, drop, ap, arith, subst, sym, length-append}
 use Rattle.std.proofs.lemmas.List.{length-take-le}
 use Rattle.pool_layout.specs.Image.{part_of}
 use Rattle.pool_layout.proofs.Images.{length-part_of}
