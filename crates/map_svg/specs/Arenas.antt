@@ -13,6 +13,7 @@ use Rattle.map_text.specs.Pieces.{text_below}
 use Rattle.map_text.specs.Facts.{request_of}
 use Rattle.map_svg.specs.Shapes.{box_text, line_begin, line_end}
 use Rattle.map_svg.specs.Cells.{row_of_boxes, row_of_labels}
+use Rattle.map_svg.specs.Rows.{row_marks}
 
 -- how many rows so many granules have, and how high the picture of an arena of so many is
 abbrev pub rows_of : ℕ → ℕ
@@ -67,10 +68,11 @@ abbrev pub place_end : List ℕ
 place_end = codes "</g>" ++ 10 ∷ []
 
 abbrev pub arena_picture : ℕ → ℕ → List Cell → Facts → List ClassFill → List ℕ
-arena_picture arena y cells facts fills = place y ++ heading arena facts ++ counts facts ++ row_of_boxes cells ++ row_of_labels cells ++ class_entries facts.granules fills ++ place_end
+arena_picture arena y cells facts fills = place y ++ heading arena facts ++ counts facts ++ row_of_boxes cells ++ row_of_labels cells ++ row_marks facts.longest cells ++ class_entries facts.granules fills ++ place_end
 
 -- The arena is sound, and the text is its picture at a height: a box over each granule says what it is, and some granule has the
--- frame of what is loose exactly where the arena is not exact.
+-- frame of what is loose exactly where the arena is not exact; of the rows of free granules those are underlined that are as long
+-- as the longest one is.
 pub record IsPicture (r : MapRules) (y : ℕ) (words : List ℕ) (arena : ℕ) (text : List ℕ) : Type 0 where
   pub sound : r.IsSound words
   pub cells : List Cell

@@ -1,6 +1,6 @@
 -- The granules of an arena as boxes, 64 a row, each of 16 by 18 units in a field of 16 by 20.
-use Rattle.std.specs.Prelude.{ℕ, ◌+◌, ◌-◌, ◌*◌, ◌/◌, ◌%◌, ◌==◌, Bool, false, List, [], ◌++◌, length, decimal, codes, if◌then◌else◌}
-use Rattle.size_classes.specs.Classes.{class_size}
+use Rattle.std.specs.Prelude.{ℕ, ◌+◌, ◌-◌, ◌*◌, ◌/◌, ◌%◌, ◌==◌, Bool, false, List, [], ◌++◌, length, min, decimal, codes, if◌then◌else◌}
+use Rattle.size_classes.specs.Classes.{class_size, class_capacity}
 use Rattle.slab_header.specs.State.{class_of}
 use Rattle.heap_map.specs.declared.cell.SlabFill.{SlabFill}
 use Rattle.heap_map.specs.declared.cell.Kind.{Kind}
@@ -20,7 +20,8 @@ tone_of Free = 3
 tone_of (Large start) = 4
 tone_of (Slab fill) = 5 + class_of fill.slab.state
 
--- the hatching of slabs in transition, the bar of what lives, the edge at which a thing begins, and the frame of what is loose
+-- the hatching of slabs in transition, the bar of what lives, the edge at which a thing begins, the frame of what is loose, and
+-- the bar of old blocks
 abbrev pub hatch_tone : ℕ
 hatch_tone = 41
 
@@ -32,6 +33,9 @@ edge_tone = 43
 
 abbrev pub loose_tone : ℕ
 loose_tone = 44
+
+abbrev pub old_tone : ℕ
+old_tone = 45
 
 -- where the field of a granule is
 abbrev pub cell_x : ℕ → ℕ
@@ -58,9 +62,24 @@ hatch k fill = if fill.turns then whole_box hatch_tone k else []
 abbrev pub bar : ℕ → SlabFill → List ℕ
 bar k fill = if tenths_of fill == 0 then [] else box_text (record { tone = bar_tone; x = cell_x k; y = cell_y k + 18 - 2 * tenths_of fill; width = 16; height = 2 * tenths_of fill })
 
+-- how many bytes there are in the blocks of a slab, and in those of other classes that live in it
+abbrev pub slab_bytes : SlabFill → ℕ
+slab_bytes fill = class_capacity (class_of fill.slab.state) * class_size (class_of fill.slab.state)
+
+abbrev pub old_bytes : SlabFill → ℕ
+old_bytes fill = fill.bytes - fill.live * class_size (class_of fill.slab.state)
+
+-- how many tenths of the slab these take, one that is begun among them, 9 at most
+abbrev pub old_tenths : SlabFill → ℕ
+old_tenths fill = min 9 ((10 * old_bytes fill + slab_bytes fill - 1) / slab_bytes fill)
+
+-- the bar of old blocks, which is narrow and stands in that of what lives
+abbrev pub old_bar : ℕ → SlabFill → List ℕ
+old_bar k fill = if old_tenths fill == 0 then [] else box_text (record { tone = old_tone; x = cell_x k + 9; y = cell_y k + 18 - 2 * old_tenths fill; width = 5; height = 2 * old_tenths fill })
+
 -- what a slab has besides
 abbrev pub slab_marks : ℕ → Kind → List ℕ
-slab_marks k (Slab fill) = hatch k fill ++ bar k fill
+slab_marks k (Slab fill) = hatch k fill ++ bar k fill ++ old_bar k fill
 slab_marks k kind = []
 
 -- the edge

@@ -1,4 +1,5 @@
 pub mod Shapes
 pub mod Cells
+pub mod Rows
 pub mod Arenas
 pub mod Page

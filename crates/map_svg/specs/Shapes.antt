@@ -16,6 +16,10 @@ line_begin x y = codes "<text x='" ++ decimal x ++ codes "' y='" ++ decimal y ++
 unfoldable pub label_begin : ℕ → ℕ → List ℕ
 label_begin x y = codes "<text class='m' x='" ++ decimal x ++ codes "' y='" ++ decimal y ++ codes "'>"
 
--- and ends
+-- and where one does that ends there
+unfoldable pub count_begin : ℕ → ℕ → List ℕ
+count_begin x y = codes "<text class='n' x='" ++ decimal x ++ codes "' y='" ++ decimal y ++ codes "'>"
+
+-- and how they end
 abbrev pub line_end : List ℕ
 line_end = codes "</text>" ++ 10 ∷ []

@@ -5,6 +5,7 @@ ghost use Rattle.map_text.specs.Maps.{IsWritable};
 ghost use Rattle.map_svg.specs.Arenas.{rows_of, arena_height, variant_words, heading, counts, class_words, class_entry, class_entries, place, place_end, arena_picture};
 
 use crate::cells::{write_cells, write_labels};
+use crate::rows::write_row_marks;
 use crate::shapes::{Shape, begin_line, end_line, write_box};
 use heap_map::{Cell, ClassFill, Facts, HeapMap, Variant};
 use map_text::request_of;
@@ -173,6 +174,7 @@ fn write_arena(
     write_counts(out, facts)?;
     write_cells(out, cells)?;
     write_labels(out, cells)?;
+    write_row_marks(out, facts.longest, cells)?;
     write_classes(out, facts.granules, classes)?;
     write_bytes(out, b"</g>\n")
 }

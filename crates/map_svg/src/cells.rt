@@ -1,14 +1,14 @@
 // The granules of an arena as boxes.
-ghost use Rattle.std.specs.Prelude.{◌≡◌, ◌+◌, ◌≤◌, ◌<◌, ◌++◌, length, OnOk};
+ghost use Rattle.std.specs.Prelude.{◌≡◌, ◌+◌, ◌^◌, ◌≤◌, ◌<◌, ◌++◌, length, OnOk};
 ghost use Rattle.slab_header.specs.State.{class_of};
 ghost use Rattle.map_text.specs.Drawing.{HasSlabClass, HasClass, HaveClasses};
-ghost use Rattle.map_svg.specs.Cells.{tone_of, begins_at, whole_box, hatch, bar, slab_marks, edge, label, large_label, slab_label, kind_label, frame, cell_boxes, row_of_boxes, row_of_labels};
+ghost use Rattle.map_svg.specs.Cells.{tone_of, begins_at, whole_box, hatch, bar, slab_bytes, old_bytes, old_tenths, old_bar, slab_marks, edge, label, large_label, slab_label, kind_label, frame, cell_boxes, row_of_boxes, row_of_labels};
 
 use crate::shapes::{Shape, begin_label, end_line, write_box};
 use heap_map::{Cell, Kind, SlabFill};
 use map_text::tenths_of;
 use pmem_lines::OutOfMemory;
-use size_classes::size_of_class;
+use size_classes::{capacity, size_of_class};
 use slab_header::SlabState;
 use trace_text::{write_bytes, write_number};
 
@@ -98,6 +98,49 @@ fn write_bar(out: &mut Vec<u8>, granule: u32, fill: &SlabFill) -> Result<(), Out
     )
 }
 
+// How many bytes there are in the blocks of other classes that live in a slab.
+fn old_bytes(fill: &SlabFill) -> u64
+    requires { HasSlabClass fill.now }
+    ensures bytes { result ≡ old_bytes fill.now }
+    ensures few { result < 2 ^ 32 }
+{
+    let size = u64::from(size_of_class(class_of(fill.slab.state)));
+    u64::from(fill.bytes).saturating_sub(u64::from(fill.live) * size)
+}
+
+// How many tenths of a slab these take.
+fn old_tenths(fill: &SlabFill) -> u32
+    requires { HasSlabClass fill.now }
+    ensures tenths { result ≡ old_tenths fill.now }
+    ensures most { result ≤ 9 }
+{
+    let class = class_of(fill.slab.state);
+    let whole = u64::from(capacity(class)) * u64::from(size_of_class(class));
+    ((10 * old_bytes(fill) + whole - 1) / whole).min(9) as u32
+}
+
+// Writes the bar of old blocks.
+fn write_old_bar(out: &mut Vec<u8>, granule: u32, fill: &SlabFill) -> Result<(), OutOfMemory>
+    requires granule { granule < 4096 }
+    requires classes { HasSlabClass fill.now }
+    ensures { OnOk result (out.new.items ≡ out.old.items ++ old_bar granule fill.now) }
+{
+    let tenths = old_tenths(fill);
+    if tenths == 0 {
+        return Ok(());
+    }
+    write_box(
+        out,
+        Shape {
+            tone: 45,
+            x: 16 * (granule % 64) + 9,
+            y: 44 + 20 * (granule / 64) + 18 - 2 * tenths,
+            width: 5,
+            height: 2 * tenths,
+        },
+    )
+}
+
 // Writes what a slab has besides.
 fn write_marks(out: &mut Vec<u8>, granule: u32, cell: Cell) -> Result<(), OutOfMemory>
     requires granule { granule < 4096 }
@@ -107,7 +150,8 @@ fn write_marks(out: &mut Vec<u8>, granule: u32, cell: Cell) -> Result<(), OutOfM
     match cell.kind {
         Kind::Slab { fill } => {
             write_hatch(out, granule, &fill)?;
-            write_bar(out, granule, &fill)
+            write_bar(out, granule, &fill)?;
+            write_old_bar(out, granule, &fill)
         }
         _ => Ok(()),
     }

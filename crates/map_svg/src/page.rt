@@ -1,6 +1,6 @@
 // The head and the end of the page.
 ghost use Rattle.std.specs.Prelude.{◌≡◌, ◌≤◌, ◌++◌, OnOk};
-ghost use Rattle.map_svg.specs.Page.{arena_y, page_height, opening, subject, title, description, fixed_tones, class_tone, class_tones, style, ground, key, first_keys, last_keys, heading_line, head, end_of_page};
+ghost use Rattle.map_svg.specs.Page.{arena_y, page_height, opening, subject, title, description, fixed_tones, class_tone, class_tones, style, ground, key, first_keys, last_keys, row_key, heading_line, head, end_of_page};
 
 use crate::arenas::arena_height;
 use crate::shapes::{Shape, begin_line, end_line, write_box};
@@ -63,11 +63,15 @@ fn write_description(out: &mut Vec<u8>) -> Result<(), OutOfMemory>
     )?;
     write_bytes(
         out,
-        b"A dark edge is where a large block, labelled #, or a slab begins, labelled with the size of its blocks in bytes. A bar in a slab says how many tenths of it live. ",
+        b"A dark edge is where a large block, labelled #, or a slab begins, labelled with the size of its blocks in bytes. A dark bar in a slab says how many tenths of it live, a white one how many have old blocks. ",
     )?;
     write_bytes(
         out,
-        b"A slab in transition between two classes is hatched. A red frame is around what is loose. nvpool text and nvpool info tell the same in letters and numbers.</desc>\n",
+        b"A slab in transition between two classes is hatched. A red frame is around what is loose. A number among free granules is how many stand in the row that ends there, and the longest row is underlined there. ",
+    )?;
+    write_bytes(
+        out,
+        b"nvpool text and nvpool info tell the same in letters and numbers.</desc>\n",
     )
 }
 
@@ -78,7 +82,7 @@ fn write_fixed_tones(out: &mut Vec<u8>) -> Result<(), OutOfMemory>
 {
     write_bytes(
         out,
-        b"text{font:12px sans-serif;fill:#111}text.m{font-size:11px;stroke:#fff;stroke-width:2px;paint-order:stroke}.k0{fill:#334155}.k1{fill:#64748b}.k2{fill:#8b5cf6}",
+        b"text{font:12px sans-serif;fill:#111}text.m{font-size:11px;stroke:#fff;stroke-width:2px;paint-order:stroke}text.n{font-size:11px;text-anchor:end}.k0{fill:#334155}.k1{fill:#64748b}.k2{fill:#8b5cf6}",
     )?;
     write_bytes(
         out,
@@ -86,7 +90,7 @@ fn write_fixed_tones(out: &mut Vec<u8>) -> Result<(), OutOfMemory>
     )?;
     write_bytes(
         out,
-        b".k42{fill:#000;fill-opacity:.5}.k43{fill:#111}.k44{fill:none;stroke:#c00;stroke-width:3}\n",
+        b".k42{fill:#000;fill-opacity:.5}.k43{fill:#111}.k44{fill:none;stroke:#c00;stroke-width:3}.k45{fill:#fff;stroke:#111;stroke-width:1}.k46{fill:#111}\n",
     )
 }
 
@@ -140,20 +144,20 @@ fn write_ground(out: &mut Vec<u8>) -> Result<(), OutOfMemory>
 // Writes an entry of the legend.
 #[tactic(auto, unfolding(crate::specs::Page::key))]
 fn write_key(out: &mut Vec<u8>, place: u32, tone: u32, says: &[u8]) -> Result<(), OutOfMemory>
-    requires { place ≤ 8 }
+    requires { place ≤ 9 }
     ensures { OnOk result (out.new.items ≡ out.old.items ++ key place tone says.now) }
 {
     write_box(
         out,
         Shape {
             tone,
-            x: 32 + 112 * place,
-            y: 52,
+            x: 32 + 104 * place,
+            y: 44,
             width: 12,
             height: 12,
         },
     )?;
-    begin_line(out, 50 + 112 * place, 63)?;
+    begin_line(out, 50 + 104 * place, 55)?;
     write_bytes(out, says)?;
     end_line(out)
 }
@@ -178,7 +182,21 @@ fn write_last_keys(out: &mut Vec<u8>) -> Result<(), OutOfMemory>
     write_key(out, 5, 13, b"slab, by class")?;
     write_key(out, 6, 41, b"in transition")?;
     write_key(out, 7, 42, b"live part")?;
-    write_key(out, 8, 44, b"loose")
+    write_key(out, 8, 45, b"old blocks")?;
+    write_key(out, 9, 44, b"loose")
+}
+
+// Writes what numbers among free granules say.
+#[tactic(auto, unfolding(crate::specs::Page::row_key))]
+fn write_row_key(out: &mut Vec<u8>) -> Result<(), OutOfMemory>
+    ensures { OnOk result (out.new.items ≡ out.old.items ++ row_key) }
+{
+    begin_line(out, 32, 77)?;
+    write_bytes(
+        out,
+        b"A number among free granules: so many stand in the row that ends there. Underlined: the longest row.",
+    )?;
+    end_line(out)
 }
 
 // Writes the line that says what the picture is of.
@@ -205,7 +223,8 @@ pub fn write_head(out: &mut Vec<u8>, arenas: u32, granules: u32) -> Result<(), O
     write_ground(out)?;
     write_heading_line(out, arenas, granules)?;
     write_first_keys(out)?;
-    write_last_keys(out)
+    write_last_keys(out)?;
+    write_row_key(out)
 }
 
 /// Writes the end of the page.

@@ -1,6 +1,6 @@
 // The shapes of a picture.
 ghost use Rattle.std.specs.Prelude.{◌≡◌, ◌++◌, OnOk};
-ghost use Rattle.map_svg.specs.Shapes.{box_text, line_begin, label_begin, line_end};
+ghost use Rattle.map_svg.specs.Shapes.{box_text, line_begin, label_begin, count_begin, line_end};
 
 use pmem_lines::OutOfMemory;
 use trace_text::{write_bytes, write_word};
@@ -48,7 +48,17 @@ pub(crate) fn begin_label(out: &mut Vec<u8>, x: u32, y: u32) -> Result<(), OutOf
     write_bytes(out, b"'>")
 }
 
-/// Writes where it ends.
+/// Writes the head of a small line of text that ends there.
+#[tactic(auto, unfolding(crate::specs::Shapes::count_begin))]
+pub(crate) fn begin_count(out: &mut Vec<u8>, x: u32, y: u32) -> Result<(), OutOfMemory>
+    ensures { OnOk result (out.new.items ≡ out.old.items ++ count_begin x y) }
+{
+    write_word(out, b"<text class='n' x='", u64::from(x))?;
+    write_word(out, b"' y='", u64::from(y))?;
+    write_bytes(out, b"'>")
+}
+
+/// Writes how any of these ends.
 pub(crate) fn end_line(out: &mut Vec<u8>) -> Result<(), OutOfMemory>
     ensures { OnOk result (out.new.items ≡ out.old.items ++ line_end) }
 {
