@@ -26,12 +26,8 @@ measure() {
 
 echo "pool 16 1024" >"$room/empty"
 
-# 3825 blocks of 4096 bytes in each arena: a slab has 15 of them.
-awk 'BEGIN {
-    print "pool 16 1024"
-    for (arena = 0; arena < 16; arena++)
-        for (root = 0; root < 3825; root++) print "0 " arena " m " root " 4096"
-}' >"$room/full"
+. "$top/bench/traces.sh"
+pool_of_full_slabs >"$room/full"
 
 for pool in empty full; do
     python3 "$top/bench/measure.py" "$program" "$room/$pool" "$room/$pool.image" "image of the $pool pool" "$bytes" byte image

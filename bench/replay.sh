@@ -25,11 +25,7 @@ awk 'BEGIN {
     for (; left > 0; left--) printf "\n"
 }' >"$room/comments"
 
-# A million calls, all but the first refused, since the root names a block.
-awk 'BEGIN {
-    print "pool 1 16"
-    for (i = 0; i < 1000000; i++) print "0 0 m 7 64"
-}' >"$room/occupied"
+refused 1000000 1 >"$room/occupied"
 
 # As many calls as a trace can have: the shortest lines, in 64 MiB.
 awk 'BEGIN {

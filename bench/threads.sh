@@ -17,22 +17,7 @@ program=$top/crates/program/out/program
 (cd "$top/crates/call_times" && rt run -- workers <"$top/examples/small.trace" >"$room/out" 2>"$room/log") || { cat "$room/log" >&2; exit 1; }
 caller=$top/crates/call_times/out/call_times
 
-# So many calls over so many arenas, by so many threads: the calls go to the arenas in turn, and those of a turn to one
-# thread after another. A call frees its root's block or gives it one; the draws are by a fixed rule.
-calls() {
-    awk -v count="$1" -v arenas="$2" -v threads="$3" 'BEGIN {
-        print "pool " arenas " 1024"
-        state = 1
-        for (i = 0; i < count; i++) {
-            state = state * 16807 % 2147483647
-            arena = i % arenas
-            thread = i % threads
-            root = state % 1000
-            if (held[arena, root]) { print thread " " arena " f " root; held[arena, root] = 0 }
-            else { print thread " " arena " m " root " " (1 + state % 2048); held[arena, root] = 1 }
-        }
-    }'
-}
+. "$top/bench/traces.sh"
 
 # Times `replay` and `serve` of the trace, and its calls alone: the best of five times.
 measure() {
@@ -61,22 +46,15 @@ measure "one arena, eight threads" 100000
 calls 100000 1 64 >"$room/trace"
 measure "one arena, 64 threads" 100000
 
-# Calls of one arena that are all refused but for the first, so that the turns at its lock are most of what they take: by one
-# caller without a pool, by one, four and eight threads in turn, and by one caller that sends each to the arena's queue and then
-# has its owner serve it.
-refused() {
-    awk -v count="$1" -v threads="$2" 'BEGIN {
-        print "pool 1 16"
-        for (i = 0; i < count; i++) print (i % threads) " 0 m 7 64"
-    }' >"$room/trace"
-}
-refused 1000000 1
+# Turns at the lock are most of what refused calls take: by one caller without a pool, by one, four and eight threads in turn, and by
+# one caller that sends each to the arena's queue and then has its owner serve it.
+refused 1000000 1 >"$room/trace"
 alone "refused calls, without a pool" alone
 alone "refused calls, one thread" workers
 alone "refused calls, through a queue" queue
-refused 1000000 4
+refused 1000000 4 >"$room/trace"
 alone "refused calls, four threads" workers
-refused 1000000 8
+refused 1000000 8 >"$room/trace"
 alone "refused calls, eight threads" workers
 
 # A million generated calls, for which no input is read.

@@ -1,5 +1,4 @@
-# Functions that write made traces to standard output. `replay.sh`, `machine.sh` and `variants.sh` read this file. None of the traces
-# has a move.
+# Functions that write made traces to standard output. The other scripts read this file. None of the traces has a move.
 
 # A million mallocs and frees of blocks of so many bytes at least, and so many more: a call frees its root's block or gives
 # it one. The draws are by a fixed rule. With large blocks over a few roots the log rolls, since its old chunks are soon
@@ -104,5 +103,39 @@ slabs() {
             for (k = 0; k < 6; k++) print "0 0 m " k " 16384"
             for (k = 0; k < 6; k++) print "0 0 f " k
         }
+    }'
+}
+
+# So many calls over so many arenas, by so many threads: the calls go to the arenas in turn, and those of a turn to one
+# thread after another. A call frees its root's block or gives it one; the draws are by a fixed rule.
+calls() {
+    awk -v count="$1" -v arenas="$2" -v threads="$3" 'BEGIN {
+        print "pool " arenas " 1024"
+        state = 1
+        for (i = 0; i < count; i++) {
+            state = state * 16807 % 2147483647
+            arena = i % arenas
+            thread = i % threads
+            root = state % 1000
+            if (held[arena, root]) { print thread " " arena " f " root; held[arena, root] = 0 }
+            else { print thread " " arena " m " root " " (1 + state % 2048); held[arena, root] = 1 }
+        }
+    }'
+}
+
+# So many calls of one arena by so many threads in turn, of which all but the first are refused, since the root names a block.
+refused() {
+    awk -v count="$1" -v threads="$2" 'BEGIN {
+        print "pool 1 16"
+        for (i = 0; i < count; i++) print (i % threads) " 0 m 7 64"
+    }'
+}
+
+# The largest pool of version 1, in which each arena has 255 slabs, all full: 3825 blocks of 4096 bytes, of which a slab has 15.
+pool_of_full_slabs() {
+    awk 'BEGIN {
+        print "pool 16 1024"
+        for (arena = 0; arena < 16; arena++)
+            for (root = 0; root < 3825; root++) print "0 " arena " m " root " 4096"
     }'
 }
