@@ -2,7 +2,7 @@
 ghost use Rattle.std.specs.Prelude.{◌≡◌, ◌≤◌, MatchOption};
 ghost use Rattle.trace_text.specs.declared.call.PoolSize.{PoolSize};
 ghost use Rattle.trace_text.specs.declared.call.TraceCall.{TraceCall};
-ghost use Rattle.trace_text.specs.Grammar.{IsPoolLine, IsCallLine, IsStill};
+ghost use Rattle.trace_text.specs.Grammar.{IsPoolLine, IsStill};
 ghost use Rattle.trace_text.specs.Lines.{lines_for};
 
 use crate::line::{read_call_line, read_pool_line};
@@ -28,15 +28,17 @@ pub(crate) fn read_head(kind: Kind, line: &[u8]) -> Option<PoolSize>
     }
 }
 
-/// The call that a line makes in a pool, of at least one arena; none where it makes no call of such a trace.
+/// The call that a line makes in a pool, of 1 to 16 arenas; none where it makes no call of such a trace.
 #[inline(always)]
 pub(crate) fn read_call(kind: Kind, pool: PoolSize, line: &[u8]) -> Option<TraceCall>
-    requires { 1 ≤ pool.arenas }
+    requires some { 1 ≤ pool.arenas }
+    requires few { pool.arenas ≤ 16 }
     ensures { MatchOption result ((call : TraceCall) → ¬ ((lines_for kind).call pool line.now call)) (λ call. (lines_for kind).call pool line.now call) }
 {
+    let call = read_call_line(pool.arenas, line)?;
     match kind {
-        Kind::Every => read_call_line(pool.arenas, line),
-        Kind::Still => read_still_line(pool.arenas, line),
+        Kind::Every => Some(call),
+        Kind::Still => as_still(call),
     }
 }
 
@@ -50,12 +52,10 @@ fn read_first_pool_line(line: &[u8]) -> Option<PoolSize>
     }
 }
 
-/// The call that a line makes in a pool of so many arenas, at least one; none where it makes no call, or one that moves a block.
-fn read_still_line(arenas: u32, line: &[u8]) -> Option<TraceCall>
-    requires { 1 ≤ arenas }
-    ensures { MatchOption result ((call : TraceCall) → ¬ (IsCallLine arenas line.now call × IsStill call.call)) (λ call. IsCallLine arenas line.now call × IsStill call.call) }
+/// A call that moves no block; none where it moves one.
+fn as_still(call: TraceCall) -> Option<TraceCall>
+    ensures { MatchOption result (¬ IsStill call.call) (λ same. (same ≡ call) × IsStill call.call) }
 {
-    let call = read_call_line(arenas, line)?;
     match call.call {
         Call::Move { .. } => None,
         _ => Some(call),

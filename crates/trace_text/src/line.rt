@@ -58,6 +58,7 @@ pub(crate) fn read_pool_line(line: &[u8]) -> Option<PoolSize>
 }
 
 /// Two numbers with a space between, of 32 bits and of at most `most`; none where the words are something else.
+#[inline(always)]
 fn read_two(words: &[u8], most: u64) -> Option<(u32, u64)>
     ensures { MatchOption result ((first second : ℕ) → first < 2 ^ 32 → second ≤ most → words.now ≢ decimal first ++ 32 ∷ decimal second) (λ found. (found.1 ≤ most) × (words.now ≡ decimal found.0 ++ 32 ∷ decimal found.1)) }
 {

@@ -49,6 +49,7 @@ impl LineEnd {
     }
 
     // Puts the digits of a number ahead of the text.
+    #[inline(always)]
     fn put_digits(&mut self, number: u64)
         requires { 20 + length self.old ≤ 160 }
         ensures text { self.new ≡ decimal number ++ self.old }

@@ -66,7 +66,7 @@ fn read_pool(kind: Kind, text: &[u8]) -> Result<BehindPool<'_>, u64>
     Err(many + 1)
 }
 
-/// The calls of a pool, of at least one arena, that a text makes, of which as many lines stand before it.
+/// The calls of a pool, of 1 to 16 arenas, that a text makes, of which as many lines stand before it.
 fn read_calls(
     alloc: Global,
     kind: Kind,
@@ -75,6 +75,7 @@ fn read_calls(
     before: u64,
 ) -> Result<Vec<TraceCall>, TextFault>
     requires some { 1 ≤ pool.arenas }
+    requires few_arenas { pool.arenas ≤ 16 }
     requires short { before + length text.now < 2 ^ 64 }
     ensures calls { IfOk result (λ calls. AreCalls (lines_for kind) pool (lines_of text.now) calls.items) }
     ensures few { IfOk result (λ calls. length calls.items ≤ length text.now) }

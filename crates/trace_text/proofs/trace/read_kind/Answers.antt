@@ -14,3 +14,6 @@ returns-in_ok-calls-in-Ok-clause-each c = kind_calls c.args.kind c.args.bytes.no
 
 pub read_calls-requires-clause-some : goal.read_calls-requires-clause-some
 read_calls-requires-clause-some c = (kind_head c.args.kind c.in-Ok.ensures.line c.in-Ok.behind.pool c.in-Ok.ensures.says).valid.some
+
+pub read_calls-requires-clause-few_arenas : goal.read_calls-requires-clause-few_arenas
+read_calls-requires-clause-few_arenas c = (kind_head c.args.kind c.in-Ok.ensures.line c.in-Ok.behind.pool c.in-Ok.ensures.says).valid.few
