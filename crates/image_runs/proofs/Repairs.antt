@@ -10,16 +10,14 @@ use Rattle.pmem_lines.specs.declared.event.Event.{Event}
 use Rattle.pmem_lines.specs.Events.{reading}
 use Rattle.pmem_lines.specs.Pmem.{PmemState, words_of, fresh}
 use Rattle.pool_layout.specs.declared.header.PoolHeader.{PoolHeader}
-use Rattle.pool_layout.specs.Bytes.{bytes_of_words, words_of_bytes}
-use Rattle.pool_layout.specs.Header.{fields_of, granules_in, IsHeader}
-use Rattle.pool_layout.specs.Image.{part_of, header_of_arena, IsPoolImage, IsImageOf}
-use Rattle.pool_layout.proofs.Headers.{fields_of-header_word, header_fits}
+use Rattle.pool_layout.specs.Bytes.{bytes_of_words}
+use Rattle.pool_layout.specs.Header.{fields_of, granules_in}
+use Rattle.pool_layout.specs.Image.{part_of}
 use Rattle.pool_layout.proofs.Images.{part_inside}
-use Rattle.pool_layout.proofs.Words.{words_of_bytes-bytes_of_words, length-bytes_of_words}
 use Rattle.heap_check.specs.Image.{header_in, IsSoundImage}
 use Rattle.recover.specs.Recovered.{IsRecovered}
 use Rattle.recovery_steps.proofs.Exact.{recovers_sound_none}
-use Rattle.image_runs.specs.Repairs.{IsRepaired, IsPoolRepaired, AreWholeWords, AddsPart}
+use Rattle.image_runs.specs.Repairs.{IsRepaired, AreWholeWords, AddsPart}
 
 -- one arena
 
@@ -40,11 +38,6 @@ repaired_words words room device sound is =
       recovery = record { events = device.events; stores = is.stores; is = made };
       still = λ exact. made ∙ ap (λ (events : List Event). reading words events) (recovers_sound_none words exact device.events is.stores);
     }
-
--- repaired words have the header line that they had
-header_kept : (words new : List ℕ) (header : PoolHeader) → IsHeader words header → IsRepaired words new → IsHeader new header
-header_kept words new header line is =
-    subst (IsHeader new) (is.header ∙ ap fields_of line.word ∙ fields_of-header_word header (header_fits header line.valid)) is.exact.formed.header
 
 -- the words of one arena behind those of others
 
@@ -103,25 +96,3 @@ module _ (Is : List ℕ → List ℕ → Type 0) where
               (cases_eq arena count);
           is = adds.is ∙ ap (λ (bs : List ℕ). bs ++ bytes_of_words own) has.is ∙ sym (bytes-append has.new own);
         }
-
-pub repaired_size : (words new : List ℕ) → IsRepaired words new → length new ≡ length words
-repaired_size words new is = is.size
-
--- all of them are the image of the pool
-pub pool_repaired : (words : List ℕ) (header : PoolHeader) (bytes : List ℕ) → IsPoolImage words header → HasParts IsRepaired words header.granules header.arenas bytes → IsPoolRepaired words header bytes
-pool_repaired words header bytes pool has = record { new = has.new; image = image; same = refl; each = has.each }
-  where
-    new_pool : IsPoolImage has.new header
-    new_pool = record {
-      first = pool.first;
-      size = omega (arith, has.size);
-      each = λ arena below. header_kept (part_of words header.granules arena) (part_of has.new header.granules arena) (header_of_arena header arena) (pool.each arena below) (has.each arena below);
-    }
-
-    image : IsImageOf bytes has.new
-    image = record {
-      words_are = sym (ap words_of_bytes has.is ∙ words_of_bytes-bytes_of_words has.new has.fit);
-      whole = ap length has.is ∙ length-bytes_of_words has.new;
-      header = header;
-      pool = new_pool;
-    }

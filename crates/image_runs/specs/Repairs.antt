@@ -1,11 +1,9 @@
--- What `repair` makes of the image of a pool: the recovered image of each arena.
+-- What `repair` makes of the words of an arena: its recovered image.
 use Rattle.std.specs.Prelude.{◌≡◌, ℕ, ◌^◌, ◌<◌, List, ◌++◌, length}
 use Rattle.std.specs.List.{All}
 use Rattle.pmem_lines.specs.declared.event.Event.{Event}
 use Rattle.pmem_lines.specs.Events.{reading}
-use Rattle.pool_layout.specs.declared.header.PoolHeader.{PoolHeader}
 use Rattle.pool_layout.specs.Bytes.{bytes_of_words}
-use Rattle.pool_layout.specs.Image.{part_of, IsImageOf}
 use Rattle.image_tables.specs.Tables.{tables_of}
 use Rattle.heap_check.specs.Image.{header_in, IsSoundImage, IsExactImage}
 use Rattle.heap_check.specs.State.{HaveSameHeap, KeepsBlocks}
@@ -31,13 +29,6 @@ pub record IsRepaired (words new : List ℕ) : Type 0 where
   -- what was stored
   pub recovery : HasRecoveryOf words new
   pub still : IsExactImage words → new ≡ words
-
--- All arenas of a pool with this header are sound, and the bytes are the image of the pool with each of them repaired.
-pub record IsPoolRepaired (words : List ℕ) (header : PoolHeader) (bytes : List ℕ) : Type 0 where
-  pub new : List ℕ
-  pub image : IsImageOf bytes new
-  pub same : image.header ≡ header
-  pub each : (arena : ℕ) → arena < header.arenas → IsRepaired (part_of words header.granules arena) (part_of new header.granules arena)
 
 -- for the functions below
 

@@ -1,18 +1,17 @@
--- The size of a block is a multiple of sixteen.
-use Rattle.std.proofs.Common.{◌≡◌, ◌==◌, ℕ, ◌-◌, ◌*◌, ◌/◌, ◌%◌, ◌<◌, ◌≤◌, Bool, true, false, if◌then◌else◌, Some, None, List, sym, ap, subst, ⊎_elim, arith}
+-- The size of a block is a multiple of sixteen, so the lines of a block have all of its words.
+use Rattle.std.proofs.Common.{◌≡◌, ◌==◌, ℕ, ◌-◌, ◌*◌, ◌/◌, ◌%◌, ◌<◌, ◌≤◌, Bool, true, false, if◌then◌else◌, Some, None, sym, ap, subst, ⊎_elim, arith}
 use Rattle.std.proofs.lemmas.Bool.{cases_lt}
 use Rattle.std.proofs.lemmas.List.{get_or_past}
 use Rattle.size_classes.specs.Classes.{sizes, class_size}
 use Rattle.size_classes.proofs.Spacing.{class_size-aligned}
 use Rattle.image_tables.specs.Tables.{Tables, tables_of}
 use Rattle.heap_model.specs.Machine.{Range}
-use Rattle.heap_check.specs.Heap.{is_large, size_at, heap}
-use Rattle.gc_check.specs.Heap.{address_field, class_field, gc_tables, gc_heap}
+use Rattle.heap_check.specs.Heap.{is_large, size_at}
+use Rattle.gc_check.specs.Heap.{address_field, class_field, gc_tables}
 use Rattle.gc_check.proofs.Heaps.{IsNamed-heap}
 use Rattle.gc_map.specs.GcRules.{gc_rules}
 use Rattle.heap_map.specs.LogRules.{log_rules}
-use Rattle.map_text.specs.Maps.{IsDump}
-use Rattle.nvpool.specs.Dumping.{IsBlockDump, IsGcBlockDump}
+use Rattle.nvpool.specs.Dumping.{HaveWholeLines}
 
 -- past the last class there is no size
 past_last : (class : ℕ) → 36 ≤ class → class_size class % 16 ≡ 0
@@ -29,9 +28,12 @@ either false m n p q = q
 size_aligned : (t : Tables) (root at : ℕ) → size_at t root at % 16 ≡ 0
 size_aligned t root at = either (is_large t.large at) _ _ (omega arith) (either _ _ _ (class_aligned _) (class_aligned _))
 
-block_aligned : (t : Tables) (root : ℕ) (range : Range) → heap t root ≡ Some range → range.size % 16 ≡ 0
-block_aligned t root range is = by (t.root root == 0) is
+pub log_lines : HaveWholeLines log_rules
+log_lines words root range is = by (t.root root == 0) is
   where
+    t : Tables
+    t = tables_of words
+
     own : Range
     own = record { at = t.root root; size = size_at t root (t.root root) }
 
@@ -41,17 +43,9 @@ block_aligned t root range is = by (t.root root == 0) is
         let same : own ≡ range = cc in
         subst (λ (r : Range). r.size % 16 ≡ 0) same (size_aligned t root (t.root root))
 
--- so the lines of a block have all of its words
-pub block_dump : (words : List ℕ) (root : ℕ) (text : List ℕ) → IsDump log_rules words root text → IsBlockDump words root text
-block_dump words root text is = record { dump = is; whole = block_aligned (tables_of words) root is.range is.named }
-
--- those of the GC variant too
-
-gc_aligned : (t : Tables) (root : ℕ) (range : Range) → gc_heap t root ≡ Some range → range.size % 16 ≡ 0
-gc_aligned t root range is =
+pub gc_lines : HaveWholeLines gc_rules
+gc_lines words root range is =
+    let t = gc_tables words in
     let size = ap (λ (r : Range). r.size) (IsNamed-heap t root range is).is in
     let word = t.word root in
     subst (λ s. s % 16 ≡ 0) (sym size) (either (class_field word == 0) (16384 * t.large (address_field word / 16384)) (class_size (class_field word - 1)) (omega arith) (class_aligned (class_field word - 1)))
-
-pub gc_block_dump : (words : List ℕ) (root : ℕ) (text : List ℕ) → IsDump gc_rules words root text → IsGcBlockDump words root text
-gc_block_dump words root text is = record { dump = is; whole = gc_aligned (gc_tables words) root is.range is.named }

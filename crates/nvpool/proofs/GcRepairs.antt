@@ -1,22 +1,15 @@
--- The repairs of the arenas of a pool of the GC variant.
-use Rattle.std.proofs.Common.{◌≡◌, ℕ, List, [], ◌++◌, length, refl, sym, ap, subst, ◌∙◌, arith, ⊎_elim}
+-- The repair of an arena of the GC variant.
+use Rattle.std.proofs.Common.{◌≡◌, ℕ, List, [], ◌++◌, ap, ◌∙◌, arith, ⊎_elim}
 use Rattle.pmem_lines.specs.declared.event.Event.{Event}
 use Rattle.pmem_lines.specs.Events.{reading}
 use Rattle.pmem_lines.specs.Pmem.{PmemState, words_of, fresh}
 use Rattle.pool_layout.specs.declared.header.PoolHeader.{PoolHeader}
-use Rattle.pool_layout.specs.Bytes.{words_of_bytes}
 use Rattle.pool_layout.specs.Header.{fields_of, granules_in}
-use Rattle.pool_layout.specs.Image.{part_of, header_of_arena}
-use Rattle.pool_layout.proofs.Headers.{fields_of-header_word, header_fits}
-use Rattle.pool_layout.proofs.Words.{words_of_bytes-bytes_of_words, length-bytes_of_words}
 use Rattle.heap_check.specs.Image.{header_in}
-use Rattle.gc_check.specs.Header.{IsGcHeader}
 use Rattle.gc_check.specs.Image.{IsGcSoundImage, IsGcExactImage}
-use Rattle.gc_pool.specs.Image.{IsGcPoolImage, IsGcImageOf}
 use Rattle.gc_recovery_steps.specs.Recovery.{GcRecovers}
 use Rattle.gc_recover.specs.Recovered.{IsGcRecovered}
-use Rattle.image_runs.proofs.Repairs.{HasParts}
-use Rattle.nvpool.specs.Repairing.{IsGcRepaired, IsGcPoolRepaired}
+use Rattle.nvpool.specs.GcRepairs.{IsGcRepaired}
 
 -- an exact image has nothing to recover
 
@@ -51,31 +44,4 @@ gc_repaired_words words room device sound is =
       slabs = is.slabs;
       recovery = record { events = device.events; stores = is.stores; is = made };
       still = λ exact. made ∙ ap (λ (events : List Event). reading words events) (recovers_none words exact device.events is.stores);
-    }
-
-pub gc_repaired_size : (words new : List ℕ) → IsGcRepaired words new → length new ≡ length words
-gc_repaired_size words new is = is.size
-
--- repaired words have the header line that they had
-header_kept : (words new : List ℕ) (header : PoolHeader) → IsGcHeader words header → IsGcRepaired words new → IsGcHeader new header
-header_kept words new header line is =
-    subst (IsGcHeader new) (is.header ∙ ap fields_of line.word ∙ fields_of-header_word header (header_fits header line.valid.valid)) is.exact.formed.header
-
--- all arenas are the image of the pool
-pub gc_pool_repaired : (words : List ℕ) (header : PoolHeader) (bytes : List ℕ) → IsGcPoolImage words header → HasParts IsGcRepaired words header.granules header.arenas bytes → IsGcPoolRepaired words header bytes
-gc_pool_repaired words header bytes pool has = record { new = has.new; image = image; same = refl; each = has.each }
-  where
-    new_pool : IsGcPoolImage has.new header
-    new_pool = record {
-      first = pool.first;
-      size = omega (arith, has.size);
-      each = λ arena below. header_kept (part_of words header.granules arena) (part_of has.new header.granules arena) (header_of_arena header arena) (pool.each arena below) (has.each arena below);
-    }
-
-    image : IsGcImageOf bytes has.new
-    image = record {
-      words_are = sym (ap words_of_bytes has.is ∙ words_of_bytes-bytes_of_words has.new has.fit);
-      whole = ap length has.is ∙ length-bytes_of_words has.new;
-      header = header;
-      pool = new_pool;
     }

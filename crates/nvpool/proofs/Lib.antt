@@ -1,5 +1,4 @@
 pub mod Images
-pub mod GcImages
 pub mod Refusals
 pub mod Table
 pub mod Answering
@@ -9,6 +8,6 @@ pub mod Completeness
 pub mod Told
 pub mod Aligned
 pub mod Dumps
-pub mod GcDumps
 pub mod GcRepairs
+pub mod Repairs
 pub mod Cuts

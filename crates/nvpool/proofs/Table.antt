@@ -11,12 +11,13 @@ use Rattle.nvpool.specs.Command.{row_of, meaning_of, IsCommand, IsSaid}
 use Rattle.gc_pool.proofs.NoDefect.{text_of}
 use Rattle.nvpool.specs.declared.telling.Form.{Form}
 use Rattle.nvpool.specs.declared.telling.Form.TheVariants.{Numbers, Letters, Picture}
-use Rattle.nvpool.specs.Telling.{log_telling, gc_telling, telling}
-use Rattle.nvpool.specs.Dumping.{log_dumping, gc_dumping, dumping}
-use Rattle.nvpool.specs.Repairing.{log_repairing, gc_repairing, repairing}
+use Rattle.nvpool.specs.Rules.{log_pools, gc_pools}
+use Rattle.nvpool.specs.Telling.{telling_by, telling}
+use Rattle.nvpool.specs.Dumping.{dumping_by, dumping}
+use Rattle.nvpool.specs.Repairing.{repairing_by, repairing}
 use Rattle.nvpool.proofs.Variants.{either_settled}
-use Rattle.nvpool.proofs.GcImages.{log_text, gc_image_not_refused, gc_dump_not_refused}
-use Rattle.nvpool.proofs.Refusals.{image_not_refused, dump_not_refused, cut_not_refused}
+use Rattle.nvpool.proofs.Images.{log_text}
+use Rattle.nvpool.proofs.Refusals.{log_settled, gc_settled, image_not_refused, dump_not_refused, cut_not_refused}
 
 -- a row for each command
 
@@ -46,14 +47,17 @@ back Repair = refl
 -- what a command accepts it does not refuse
 
 told_settled : (form : Form) (input : List ℕ) (why : Cause) → (telling form).accepts input → ¬ ((telling form).refuses input why)
-told_settled form = either_settled (log_telling form) (gc_telling form) image_not_refused gc_image_not_refused (λ input has. log_text input has.words has.image) (λ input has. text_of input has.words has.image)
+told_settled form =
+    either_settled (telling_by log_pools form) (telling_by gc_pools form) (image_not_refused log_pools log_settled) (image_not_refused gc_pools gc_settled) (λ input has. log_text input has.words has.image.0) (λ input has. text_of input has.words has.image.0)
 
 dump_settled : (arena root : ℕ) (input : List ℕ) (why : Cause) → (dumping arena root).accepts input → ¬ ((dumping arena root).refuses input why)
 dump_settled arena root =
-    either_settled (log_dumping arena root) (gc_dumping arena root) (dump_not_refused arena root) (gc_dump_not_refused arena root) (λ input has. log_text input has.words has.image) (λ input has. text_of input has.words has.image)
+    either_settled (dumping_by log_pools arena root) (dumping_by gc_pools arena root) (λ input. dump_not_refused log_pools log_settled input arena root) (λ input. dump_not_refused gc_pools gc_settled input arena root)
+    (λ input has. log_text input has.words has.image.0) (λ input has. text_of input has.words has.image.0)
 
 repair_settled : (input : List ℕ) (why : Cause) → repairing.accepts input → ¬ (repairing.refuses input why)
-repair_settled = either_settled log_repairing gc_repairing image_not_refused gc_image_not_refused (λ input has. log_text input has.words has.image) (λ input has. text_of input has.words has.image)
+repair_settled =
+    either_settled (repairing_by log_pools) (repairing_by gc_pools) (image_not_refused log_pools log_settled) (image_not_refused gc_pools gc_settled) (λ input has. log_text input has.words has.image.0) (λ input has. text_of input has.words has.image.0)
 
 pub settled : (command : Command) (input : List ℕ) (why : Cause) → (meaning_of command).accepts input → ¬ ((meaning_of command).refuses input why)
 settled Map input why has = told_settled Picture input why has

@@ -11,10 +11,9 @@ use Rattle.nvpool.specs.declared.cause.Cause.{Cause}
 use Rattle.nvpool.specs.declared.cause.Cause.TheVariants.{Text}
 use Rattle.nvpool.specs.Causes.{cause_text}
 use Rattle.nvpool.specs.Meaning.{Meaning}
-use Rattle.heap_map.specs.LogRules.{log_rules}
-use Rattle.gc_map.specs.GcRules.{gc_rules}
 use Rattle.map_text.specs.Maps.{IsDump}
-use Rattle.nvpool.specs.Dumping.{RefusesArena, RefusesGcArena}
+use Rattle.nvpool.specs.Rules.{PoolRules}
+use Rattle.nvpool.specs.Dumping.{RefusesArena}
 
 -- what the outside tells: the bytes that the source has left, and those that the sink took
 pub record Told : Type 0 where
@@ -81,29 +80,15 @@ abbrev pub IsBadLine : (ℕ → Type 0) → Answer → Type 0
 IsBadLine IsRefused answer = (line : ℕ) × IsRefused line × IsFaultLine (Text (BadLine line)) answer
 
 -- what `dump` has to say of the words of an arena: those of the block of a root, or why there are none
-abbrev pub IsDumpAnswer : List ℕ → ℕ → Answer → Type 0
-IsDumpAnswer words root (Output text) = IsDump log_rules words root text.items
-IsDumpAnswer words root (FaultLine text) = ⊥
+abbrev pub IsDumpAnswer : PoolRules → List ℕ → ℕ → Answer → Type 0
+IsDumpAnswer r words root (Output text) = IsDump r.maps words root text.items
+IsDumpAnswer r words root (FaultLine text) = ⊥
 
-pub record SaysWhyNot (words : List ℕ) (arena root : ℕ) (text : List ℕ) : Type 0 where
+pub record SaysWhyNot (r : PoolRules) (words : List ℕ) (arena root : ℕ) (text : List ℕ) : Type 0 where
   pub why : Cause
-  pub cause : RefusesArena words arena root why
+  pub cause : RefusesArena r words arena root why
   pub line : text ≡ cause_text why
 
-abbrev pub IsArenaAnswer : List ℕ → ℕ → ℕ → Answer → Type 0
-IsArenaAnswer words arena root (Output text) = IsDump log_rules words root text.items
-IsArenaAnswer words arena root (FaultLine text) = SaysWhyNot words arena root text.items
-
--- and of those of an arena of the GC variant
-abbrev pub IsGcDumpAnswer : List ℕ → ℕ → Answer → Type 0
-IsGcDumpAnswer words root (Output text) = IsDump gc_rules words root text.items
-IsGcDumpAnswer words root (FaultLine text) = ⊥
-
-pub record SaysWhyNotGc (words : List ℕ) (arena root : ℕ) (text : List ℕ) : Type 0 where
-  pub why : Cause
-  pub cause : RefusesGcArena words arena root why
-  pub line : text ≡ cause_text why
-
-abbrev pub IsGcArenaAnswer : List ℕ → ℕ → ℕ → Answer → Type 0
-IsGcArenaAnswer words arena root (Output text) = IsDump gc_rules words root text.items
-IsGcArenaAnswer words arena root (FaultLine text) = SaysWhyNotGc words arena root text.items
+abbrev pub IsArenaAnswer : PoolRules → List ℕ → ℕ → ℕ → Answer → Type 0
+IsArenaAnswer r words arena root (Output text) = IsDump r.maps words root text.items
+IsArenaAnswer r words arena root (FaultLine text) = SaysWhyNot r words arena root text.items

@@ -1,5 +1,7 @@
 pub mod Causes
 pub mod Meaning
+pub mod GcRepairs
+pub mod Rules
 pub mod Variants
 pub mod Telling
 pub mod Dumping

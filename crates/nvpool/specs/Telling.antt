@@ -2,31 +2,25 @@
 use Rattle.std.specs.Prelude.{◌≡◌, ◌⊎◌, ℕ, ◌<◌, List, [], ◌++◌}
 use Rattle.pool_layout.specs.declared.header.PoolHeader.{PoolHeader}
 use Rattle.pool_layout.specs.declared.defect.Defect.{Defect}
-use Rattle.pool_layout.specs.Image.{part_of, IsImageOf}
+use Rattle.pool_layout.specs.Image.{part_of}
 use Rattle.heap_check.specs.Sound.{IsVacant}
 use Rattle.heap_check.specs.Image.{bounds_of}
-use Rattle.gc_check.specs.Image.{IsGcSoundImage}
-use Rattle.gc_check.specs.Defects.{IsFirstGcDefect}
-use Rattle.gc_pool.specs.Image.{IsGcImageOf, IsGcImageDefect}
 use Rattle.heap_map.specs.declared.mapping.HeapMap.{HeapMap}
 use Rattle.heap_map.specs.Rules.{MapRules}
-use Rattle.heap_map.specs.LogRules.{log_rules}
 use Rattle.heap_map.specs.Facts.{IsLongestRow, IsGreatestRequest}
-use Rattle.gc_map.specs.GcRules.{gc_rules}
-use Rattle.image_runs.specs.Checks.{IsPoolDefect}
 use Rattle.map_text.specs.Pieces.{ArePieces}
 use Rattle.map_text.specs.Drawing.{legend_line}
 use Rattle.map_text.specs.Facts.{facts_text}
 use Rattle.map_text.specs.Maps.{map_text, IsInfo, IsText}
 use Rattle.map_svg.specs.Page.{head, arena_y, end_of_page}
 use Rattle.map_svg.specs.Arenas.{arena_picture, IsPicture}
-use Rattle.nvheap.specs.Checking.{HasSoundArenas}
 use Rattle.nvpool.specs.declared.cause.Cause.{Cause}
 use Rattle.nvpool.specs.declared.cause.Cause.TheVariants.{Image}
 use Rattle.program_io.specs.declared.input.Kind.TheVariants as kinds
 use Rattle.nvpool.specs.declared.telling.Form.{Form}
 use Rattle.nvpool.specs.declared.telling.Form.TheVariants.{Numbers, Letters, Picture}
 use Rattle.nvpool.specs.Meaning.{Meaning}
+use Rattle.nvpool.specs.Rules.{PoolRules, log_pools, gc_pools}
 use Rattle.nvpool.specs.Variants.{either}
 
 -- what stands before the arenas of a pool, what is told of each by the rules of its variant, and what stands behind them
@@ -61,62 +55,49 @@ pub record IsToldBy (r : MapRules) (form : Form) (words : List ℕ) (header : Po
   pub is : output ≡ front_of form header ++ told ++ back_of form
   pub grants : (arena : ℕ) → arena < header.arenas → GrantsLongestRow r (part_of words header.granules arena)
 
--- the input is the image of a pool of the LOG variant, of which the output tells
-pub record IsTold (form : Form) (input output : List ℕ) : Type 0 where
+-- the input is the image of a pool, of which the output tells
+pub record IsTold (r : PoolRules) (form : Form) (input output : List ℕ) : Type 0 where
   pub words : List ℕ
-  pub image : IsImageOf input words
-  pub told : IsToldBy log_rules form words image.header output
-
--- why an image is refused as one of the LOG variant: the first defect
-abbrev pub RefusesImage : List ℕ → Cause → Type 0
-RefusesImage input (Image arena defect) = IsPoolDefect input arena defect
-RefusesImage input cause = ⊥
-
--- the GC variant
-
--- the input is the image of a pool of that variant, of which the output tells
-pub record IsGcTold (form : Form) (input output : List ℕ) : Type 0 where
-  pub words : List ℕ
-  pub image : IsGcImageOf input words
-  pub told : IsToldBy gc_rules form words image.header output
+  pub header : PoolHeader
+  pub image : r.IsImage input words header
+  pub told : IsToldBy r.maps form words header output
 
 -- an arena is the first that is not sound, and this is its first defect
-pub record HasGcUnsound (words : List ℕ) (header : PoolHeader) (arena : ℕ) (defect : Defect) : Type 0 where
+pub record HasUnsound (r : PoolRules) (words : List ℕ) (header : PoolHeader) (arena : ℕ) (defect : Defect) : Type 0 where
   pub inside : arena < header.arenas
-  pub before : (earlier : ℕ) → earlier < arena → IsGcSoundImage (part_of words header.granules earlier)
-  pub first : IsFirstGcDefect (part_of words header.granules arena) defect
+  pub before : (earlier : ℕ) → earlier < arena → r.maps.IsSound (part_of words header.granules earlier)
+  pub first : r.IsFirst (part_of words header.granules arena) defect
 
 -- the bytes are the image of a pool of which some arena is not sound
-pub record HasGcUnsoundArena (bytes : List ℕ) (arena : ℕ) (defect : Defect) : Type 0 where
+pub record HasUnsoundArena (r : PoolRules) (bytes : List ℕ) (arena : ℕ) (defect : Defect) : Type 0 where
   pub words : List ℕ
-  pub image : IsGcImageOf bytes words
-  pub unsound : HasGcUnsound words image.header arena defect
+  pub header : PoolHeader
+  pub image : r.IsImage bytes words header
+  pub unsound : HasUnsound r words header arena defect
 
 -- the bytes are none of a pool; else the lowest arena that is not sound, by its first defect
-abbrev pub IsGcPoolDefect : List ℕ → ℕ → Defect → Type 0
-IsGcPoolDefect bytes arena defect = IsGcImageDefect bytes arena defect ⊎ HasGcUnsoundArena bytes arena defect
+abbrev pub IsPoolDefect : PoolRules → List ℕ → ℕ → Defect → Type 0
+IsPoolDefect r bytes arena defect = r.IsNone bytes arena defect ⊎ HasUnsoundArena r bytes arena defect
 
 -- the bytes are the image of a pool of which every arena is sound
-pub record HasSoundGcArenas (input : List ℕ) : Type 0 where
+pub record HasSoundArenas (r : PoolRules) (input : List ℕ) : Type 0 where
   pub words : List ℕ
-  pub image : IsGcImageOf input words
-  pub sound : (arena : ℕ) → arena < image.header.arenas → IsGcSoundImage (part_of words image.header.granules arena)
+  pub header : PoolHeader
+  pub image : r.IsImage input words header
+  pub sound : (arena : ℕ) → arena < header.arenas → r.maps.IsSound (part_of words header.granules arena)
 
--- why an image is refused as one of that variant
-abbrev pub RefusesGcImage : List ℕ → Cause → Type 0
-RefusesGcImage input (Image arena defect) = IsGcPoolDefect input arena defect
-RefusesGcImage input cause = ⊥
+-- why an image is refused: the first defect
+abbrev pub RefusesImage : PoolRules → List ℕ → Cause → Type 0
+RefusesImage r input (Image arena defect) = IsPoolDefect r input arena defect
+RefusesImage r input cause = ⊥
 
 -- by variant, and for both
 
-abbrev pub log_telling : Form → Meaning
-log_telling form = record { reads = kinds.Image; answers = IsTold form; refuses = RefusesImage; accepts = HasSoundArenas }
-
-abbrev pub gc_telling : Form → Meaning
-gc_telling form = record { reads = kinds.Image; answers = IsGcTold form; refuses = RefusesGcImage; accepts = HasSoundGcArenas }
+abbrev pub telling_by : PoolRules → Form → Meaning
+telling_by r form = record { reads = kinds.Image; answers = IsTold r form; refuses = RefusesImage r; accepts = HasSoundArenas r }
 
 abbrev pub telling : Form → Meaning
-telling form = either (log_telling form) (gc_telling form)
+telling form = either (telling_by log_pools form) (telling_by gc_pools form)
 
 -- for the functions below
 
@@ -127,6 +108,6 @@ told_text Letters header arena map = map_text arena map.cells.items map.facts ma
 told_text Picture header arena map = arena_picture arena (arena_y header.granules arena) map.cells.items map.facts map.classes.items
 
 -- an arena's own first defect
-pub record IsOwnGcDefect (words : List ℕ) (arena found : ℕ) (defect : Defect) : Type 0 where
+pub record IsOwnDefect (r : PoolRules) (words : List ℕ) (arena found : ℕ) (defect : Defect) : Type 0 where
   pub same : found ≡ arena
-  pub first : IsFirstGcDefect words defect
+  pub first : r.IsFirst words defect

@@ -1,21 +1,19 @@
 // What `dump` has to say of its input.
 ghost use Rattle.std.specs.Prelude.{ℕ, List, IfOk};
 ghost use Rattle.pool_layout.specs.Image.{AreWordsOf, AreWords};
-ghost use Rattle.heap_check.specs.Image.{IsSoundImage};
-ghost use Rattle.heap_map.specs.LogRules.{log_rules};
 ghost use Rattle.heap_map.specs.Blocks.{IsRootBlock};
-ghost use Rattle.nvpool.specs.Dumping.{log_dumping, dumping};
+ghost use Rattle.nvpool.specs.Dumping.{HaveWholeLines, dumping_by, dumping};
 ghost use Rattle.nvpool.specs.Ends.{IsAnswer, IsArenaAnswer, IsDumpAnswer};
 
 use crate::answer::fault_line;
 use crate::cause::Cause;
-use crate::gc_dumping::gc_dump_answer;
+use crate::variant::{Gc, Log, Variant};
 use gc_pool::has_gc_text;
-use heap_map::{RootBlock, block_of};
+use heap_map::RootBlock;
 use image_check::CheckFault;
 use map_text::write_dump;
 use pmem_lines::OutOfMemory;
-use pool_layout::{parts, pool_header};
+use pool_layout::parts;
 use program_io::Answer;
 use std::alloc::Global;
 
@@ -32,26 +30,26 @@ pub(crate) fn dump_answer(
     ensures { IfOk result (λ answer. (image : List ℕ) → AreWordsOf words.now bytes image → IsAnswer (dumping arena root) image answer) }
 {
     if has_gc_text(words) {
-        gc_dump_answer(alloc, words, bytes, arena, root)
+        dump_by::<Gc>(alloc, words, bytes, arena, root)
     } else {
-        log_dump_answer(alloc, words, bytes, arena, root)
+        dump_by::<Log>(alloc, words, bytes, arena, root)
     }
 }
 
-// The words of the block of a root of an arena of a pool of the LOG variant, or the line that says why there are none: the first defect of the
-// bytes as the image of a pool; else that the pool has not the arena; else the first defect of that; else that the root has no
-// block.
-fn log_dump_answer(
+// The same of a pool of one variant: the first defect of the bytes as the image of a pool; else that the pool has not the arena;
+// else the first defect of that; else that the root has no block.
+fn dump_by<V: Variant>(
     alloc: Global,
     words: &[u64],
     bytes: u64,
     arena: u32,
     root: u32,
 ) -> Result<Answer, OutOfMemory>
-    requires { AreWords words.now bytes }
-    ensures { IfOk result (λ answer. (image : List ℕ) → AreWordsOf words.now bytes image → IsAnswer (log_dumping arena root) image answer) }
+    requires words { AreWords words.now bytes }
+    requires lines { HaveWholeLines V.rules.maps }
+    ensures { IfOk result (λ answer. (image : List ℕ) → AreWordsOf words.now bytes image → IsAnswer (dumping_by V.rules arena root) image answer) }
 {
-    let header = match pool_header(words, bytes) {
+    let header = match V::header(words, bytes) {
         Ok(header) => header,
         Err(found) => {
             return fault_line(
@@ -72,15 +70,20 @@ fn log_dump_answer(
             },
         );
     }
-    dump_arena(alloc, parts(&header, words, arena), arena, root)
+    dump_arena::<V>(alloc, parts(&header, words, arena), arena, root)
 }
 
 // The same of the words of the arena.
-fn dump_arena(alloc: Global, words: &[u64], arena: u32, root: u32) -> Result<Answer, OutOfMemory>
-    ensures { IfOk result (IsArenaAnswer words.now arena root) }
+fn dump_arena<V: Variant>(
+    alloc: Global,
+    words: &[u64],
+    arena: u32,
+    root: u32,
+) -> Result<Answer, OutOfMemory>
+    ensures { IfOk result (IsArenaAnswer V.rules words.now arena root) }
 {
-    match block_of(alloc, words, root) {
-        Ok(Some(block)) => dump_block(alloc, words, root, block),
+    match V::block(alloc, words, root) {
+        Ok(Some(block)) => dump_block::<V>(alloc, words, root, block),
         Ok(None) => fault_line(alloc, Cause::NoBlock { arena, root }),
         Err(CheckFault::Defect(defect)) => fault_line(alloc, Cause::Image { arena, defect }),
         Err(CheckFault::Memory(error)) => Err(error),
@@ -88,15 +91,15 @@ fn dump_arena(alloc: Global, words: &[u64], arena: u32, root: u32) -> Result<Ans
 }
 
 // The words of a block.
-fn dump_block(
+fn dump_block<V: Variant>(
     alloc: Global,
     words: &[u64],
     root: u32,
     block: RootBlock,
 ) -> Result<Answer, OutOfMemory>
-    requires sound { IsSoundImage words.now }
-    requires block { IsRootBlock log_rules words.now root block }
-    ensures { IfOk result (IsDumpAnswer words.now root) }
+    requires sound { V.rules.maps.IsSound words.now }
+    requires block { IsRootBlock V.rules.maps words.now root block }
+    ensures { IfOk result (IsDumpAnswer V.rules words.now root) }
 {
     let mut text = Vec::new(alloc);
     write_dump(&mut text, words, block.at, block.size)?;

@@ -5,9 +5,9 @@
 // `operate` does all of it, over a source of bytes and a sink for bytes, which are those of `program_io`, as are its answers. Its
 // contract is what the program promises: `specs/Ends.antt` says how a run ends by what a command means, and the table of
 // `specs/Command.antt` has the meaning of each. The program's `main` makes the real source and sink, and calls `operate`. No
-// rule of the heap stands here: maps are drawn by `heap_map` and, of arenas of the GC variant, by `gc_map`, and written by
-// `map_text` and `map_svg`; arenas are recovered by `image_runs` and `gc_recover`; the calls of a trace are made by `trace_runs`,
-// and cut off by `trace_crashes`.
+// rule of the heap stands here. How images of pools of either variant are read is a `Variant`: by the rules of a variant
+// (`specs/Rules.antt`) its arenas are drawn by `heap_map` or `gc_map`, and recovered by `recover` or `gc_recover`; maps are written
+// by `map_text` and `map_svg`. The calls of a trace are made by `trace_runs`, and cut off by `trace_crashes`.
 #![tactic(auto)]
 
 mod answer;
@@ -15,12 +15,10 @@ mod cause;
 mod command;
 mod cutting;
 mod dumping;
-mod gc_dumping;
-mod gc_repairing;
-mod gc_telling;
 mod operating;
 mod repairing;
 mod telling;
+mod variant;
 
 pub use cause::Cause;
 pub use command::Command;

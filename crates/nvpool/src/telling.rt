@@ -1,26 +1,24 @@
 // What `map`, `text` and `info` have to say of their input.
-ghost use Rattle.std.specs.Prelude.{◌≡◌, ◌*◌, ◌≤◌, ℕ, List, ◌++◌, length, IfOk, IfErr, OnOk};
+ghost use Rattle.std.specs.Prelude.{◌≡◌, ◌≤◌, ℕ, List, ◌++◌, IfOk, IfErr, OnOk};
 ghost use Rattle.pool_layout.specs.Image.{AreWordsOf, AreWords, IfDefect};
-ghost use Rattle.heap_check.specs.Image.{IsSoundImage};
-ghost use Rattle.heap_map.specs.LogRules.{log_rules};
 ghost use Rattle.map_text.specs.Drawing.{legend_line};
 ghost use Rattle.map_text.specs.Maps.{IsWritable};
 ghost use Rattle.map_svg.specs.Page.{head, end_of_page};
-ghost use Rattle.image_runs.specs.Checks.{HasUnsoundFrom, IsPoolDefect, IsOwnDefect};
 ghost use Rattle.map_text.specs.Pieces.{Adds};
-ghost use Rattle.nvpool.specs.Telling.{AreTold, IsTold, IsToldAs, front_of, back_of, told_text, log_telling, telling};
+ghost use Rattle.nvpool.specs.Rules.{ArePoolWords};
+ghost use Rattle.nvpool.specs.Telling.{AreTold, IsTold, IsToldAs, HasUnsound, IsPoolDefect, IsOwnDefect, front_of, back_of, told_text, telling_by, telling};
 ghost use Rattle.nvpool.specs.Ends.{IsAnswer};
 
 use crate::answer::fault_line;
 use crate::cause::Cause;
-use crate::gc_telling::gc_told_answer;
+use crate::variant::{Gc, Log, Variant};
 use gc_pool::has_gc_text;
-use heap_map::{HeapMap, map_of};
+use heap_map::HeapMap;
 use image_check::CheckFault;
 use map_svg::{arena_y, write_end, write_head, write_picture};
 use map_text::{write_info, write_legend, write_text};
 use pmem_lines::OutOfMemory;
-use pool_layout::{ImageFault, PoolHeader, parts, pool_header};
+use pool_layout::{ImageFault, PoolHeader, parts};
 use program_io::Answer;
 use std::alloc::Global;
 use trace_text::write_bytes;
@@ -47,23 +45,23 @@ pub(crate) fn told_answer(
     ensures { IfOk result (λ answer. (image : List ℕ) → AreWordsOf words.now bytes image → IsAnswer (telling form) image answer) }
 {
     if has_gc_text(words) {
-        gc_told_answer(alloc, form, words, bytes)
+        told_by::<Gc>(alloc, form, words, bytes)
     } else {
-        log_told_answer(alloc, form, words, bytes)
+        told_by::<Log>(alloc, form, words, bytes)
     }
 }
 
-// The same of an image of the LOG variant.
-fn log_told_answer(
+// The same of an image of one variant.
+fn told_by<V: Variant>(
     alloc: Global,
     form: Form,
     words: &[u64],
     bytes: u64,
 ) -> Result<Answer, OutOfMemory>
     requires { AreWords words.now bytes }
-    ensures { IfOk result (λ answer. (image : List ℕ) → AreWordsOf words.now bytes image → IsAnswer (log_telling form) image answer) }
+    ensures { IfOk result (λ answer. (image : List ℕ) → AreWordsOf words.now bytes image → IsAnswer (telling_by V.rules form) image answer) }
 {
-    match tell_pool(alloc, form, words, bytes) {
+    match tell_pool::<V>(alloc, form, words, bytes) {
         Ok(text) => Ok(Answer::Output(text)),
         Err(ImageFault::Defect { arena, defect }) => fault_line(
             alloc,
@@ -75,13 +73,18 @@ fn log_told_answer(
 
 // What is told of each arena of a pool, of which these are the words, and which has so many bytes. `Defect` names the first
 // defect of the bytes, else that of the lowest arena that is not sound.
-fn tell_pool(alloc: Global, form: Form, words: &[u64], bytes: u64) -> Result<Vec<u8>, ImageFault>
+fn tell_pool<V: Variant>(
+    alloc: Global,
+    form: Form,
+    words: &[u64],
+    bytes: u64,
+) -> Result<Vec<u8>, ImageFault>
     requires { AreWords words.now bytes }
-    ensures told { IfOk result (λ text. (image : List ℕ) → AreWordsOf words.now bytes image → IsTold form image text.items) }
-    ensures defect { IfErr result (λ fault. (image : List ℕ) → AreWordsOf words.now bytes image → IfDefect fault (IsPoolDefect image)) }
+    ensures told { IfOk result (λ text. (image : List ℕ) → AreWordsOf words.now bytes image → IsTold V.rules form image text.items) }
+    ensures defect { IfErr result (λ fault. (image : List ℕ) → AreWordsOf words.now bytes image → IfDefect fault (IsPoolDefect V.rules image)) }
 {
-    let header = pool_header(words, bytes)?;
-    let mut text = match tell_arenas(alloc, form, words, &header) {
+    let header = V::header(words, bytes)?;
+    let mut text = match tell_arenas::<V>(alloc, form, words, &header) {
         Ok(text) => text,
         Err(fault) => return Err(fault),
     };
@@ -91,8 +94,8 @@ fn tell_pool(alloc: Global, form: Form, words: &[u64], bytes: u64) -> Result<Vec
     }
 }
 
-/// Writes what stands behind the arenas.
-pub(crate) fn write_back(form: Form, text: &mut Vec<u8>) -> Result<(), OutOfMemory>
+// Writes what stands behind the arenas.
+fn write_back(form: Form, text: &mut Vec<u8>) -> Result<(), OutOfMemory>
     ensures { OnOk result (text.new.items ≡ text.old.items ++ back_of form) }
 {
     match form {
@@ -102,12 +105,8 @@ pub(crate) fn write_back(form: Form, text: &mut Vec<u8>) -> Result<(), OutOfMemo
     }
 }
 
-/// What stands before the arenas.
-pub(crate) fn front_of(
-    alloc: Global,
-    form: Form,
-    header: &PoolHeader,
-) -> Result<Vec<u8>, OutOfMemory>
+// What stands before the arenas.
+fn front_of(alloc: Global, form: Form, header: &PoolHeader) -> Result<Vec<u8>, OutOfMemory>
     requires arenas { header.now.arenas ≤ 16 }
     requires granules { header.now.granules ≤ 4096 }
     ensures { IfOk result (λ text. text.items ≡ front_of form header.now) }
@@ -140,17 +139,15 @@ fn legend(alloc: Global) -> Result<Vec<u8>, OutOfMemory>
 }
 
 // What is told of all arenas, or the first that is not sound.
-fn tell_arenas(
+fn tell_arenas<V: Variant>(
     alloc: Global,
     form: Form,
     words: &[u64],
     header: &PoolHeader,
 ) -> Result<Vec<u8>, ImageFault>
-    requires size { length words.now ≡ header.now.arenas * header.now.granules * 2048 }
-    requires arenas { header.now.arenas ≤ 16 }
-    requires granules { header.now.granules ≤ 4096 }
-    ensures told { IfOk result (λ text. Adds (AreTold log_rules form words.now header.now header.now.arenas) (front_of form header.now) text.items) }
-    ensures unsound { IfErr result (λ fault. IfDefect fault (HasUnsoundFrom words.now header.now 0)) }
+    requires { ArePoolWords words.now header.now }
+    ensures told { IfOk result (λ text. Adds (AreTold V.rules.maps form words.now header.now header.now.arenas) (front_of form header.now) text.items) }
+    ensures unsound { IfErr result (λ fault. IfDefect fault (HasUnsound V.rules words.now header.now)) }
 {
     let mut text = match front_of(alloc, form, header) {
         Ok(text) => text,
@@ -158,7 +155,7 @@ fn tell_arenas(
     };
     for arena in 0..header.arenas {
         let own = parts(header, words, arena);
-        match tell_one(alloc, form, header, own, arena, &mut text) {
+        match tell_one::<V>(alloc, form, header, own, arena, &mut text) {
             Ok(()) => {}
             Err(fault) => return Err(fault),
         }
@@ -167,7 +164,7 @@ fn tell_arenas(
 }
 
 // What is told of one arena, behind what stands in a text.
-fn tell_one(
+fn tell_one<V: Variant>(
     alloc: Global,
     form: Form,
     header: &PoolHeader,
@@ -177,11 +174,11 @@ fn tell_one(
 ) -> Result<(), ImageFault>
     requires arena { arena ≤ 16 }
     requires granules { header.now.granules ≤ 4096 }
-    ensures sound { OnOk result (IsSoundImage words.now) }
-    ensures told { OnOk result (Adds (IsToldAs log_rules form header.now words.now arena) text.old.items text.new.items) }
-    ensures defect { IfErr result (λ fault. IfDefect fault (IsOwnDefect words.now arena)) }
+    ensures sound { OnOk result (V.rules.maps.IsSound words.now) }
+    ensures told { OnOk result (Adds (IsToldAs V.rules.maps form header.now words.now arena) text.old.items text.new.items) }
+    ensures defect { IfErr result (λ fault. IfDefect fault (IsOwnDefect V.rules words.now arena)) }
 {
-    let map = match map_of(alloc, words) {
+    let map = match V::map(alloc, words) {
         Ok(map) => map,
         Err(CheckFault::Memory(error)) => return Err(ImageFault::Memory(error)),
         Err(CheckFault::Defect(defect)) => return Err(ImageFault::Defect { arena, defect }),
@@ -192,8 +189,8 @@ fn tell_one(
     }
 }
 
-/// Writes what is told of an arena, by its map.
-pub(crate) fn write_map(
+// Writes what is told of an arena, by its map.
+fn write_map(
     form: Form,
     header: &PoolHeader,
     arena: u32,

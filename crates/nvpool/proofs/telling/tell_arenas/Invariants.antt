@@ -1,13 +1,11 @@
 use Rattle.std.proofs.Common.{ℕ, ◌<◌}
 use Rattle.pool_layout.specs.Image.{part_of}
-use Rattle.heap_check.specs.Image.{IsSoundImage}
-use Rattle.heap_map.specs.LogRules.{log_rules}
 use Rattle.map_text.specs.Pieces.{Adds}
 use Rattle.nvpool.specs.Telling.{AreTold, front_of}
 use Rattle.nvpool.proofs.telling.tell_arenas.Given as goal
 
 abbrev pub invariant-loop-arena : goal.invariant-loop-arena
-invariant-loop-arena l = record {
-  told : Adds (AreTold log_rules l.form l.words l.header l.arena) (front_of l.form l.header) l.text.items;
-  sound : (k : ℕ) → k < l.arena → IsSoundImage (part_of l.words l.header.granules k);
+invariant-loop-arena g l = record {
+  told : Adds (AreTold g.V.Variant.rules.maps l.form l.words l.header l.arena) (front_of l.form l.header) l.text.items;
+  sound : (k : ℕ) → k < l.arena → g.V.Variant.rules.maps.IsSound (part_of l.words l.header.granules k);
 }

@@ -1,20 +1,18 @@
 use Rattle.std.proofs.Common.{arith, refl}
-use Rattle.heap_check.proofs.Sizes.{sizes_of}
-use Rattle.heap_map.specs.LogRules.{log_rules}
 use Rattle.map_text.proofs.Classes.{writable}
 use Rattle.nvpool.proofs.Told.{adds_told}
 use Rattle.nvpool.proofs.telling.tell_one.Goals as goal
 
 pub write_map-requires-clause-map : goal.write_map-requires-clause-map
-write_map-requires-clause-map c =
+write_map-requires-clause-map g c =
     let map = c.in-Ok.ensures in
-    let few = (sizes_of c.args.words.now map.sound.formed).most in
-    writable log_rules c.args.words.now c.in-Ok.map (omega (arith, few, map.cells.all)) (omega (arith, few, map.facts.granules)) map.cells map.classes
+    let few = g.met.V.Variant.few_granules c.args.words.now map.sound in
+    writable g.V.Variant.rules.maps c.args.words.now c.in-Ok.map (omega (arith, few, map.cells.all)) (omega (arith, few, map.facts.granules)) map.cells map.classes
 
 pub returns-in-Err-Defect-clause-defect : goal.returns-in-Err-Defect-clause-defect
-returns-in-Err-Defect-clause-defect c = record { same = refl; first = rw c.in-Err-Defect.field-0-is (rw c.in-Err-Defect.field-0-is at c.in-Err-Defect.ensures.defect) }
+returns-in-Err-Defect-clause-defect g c = record { same = refl; first = rw c.in-Err-Defect.field-0-is (rw c.in-Err-Defect.field-0-is at c.in-Err-Defect.ensures.defect) }
 
 pub returns-in-Ok-write_map-clause-told : goal.returns-in-Ok-write_map-clause-told
-returns-in-Ok-write_map-clause-told c =
+returns-in-Ok-write_map-clause-told g c =
     let map = c.in-Ok.ensures in
-    adds_told log_rules c.args.header.now c.args.words.now c.args.arena c.in-Ok.map map.sound map.cells map.exact map.facts map.classes c.args.form c.args.text.now.items c.write_map.new.text.items c.in-Ok-write_map.ensures
+    adds_told g.V.Variant.rules.maps c.args.header.now c.args.words.now c.args.arena c.in-Ok.map map.sound map.cells map.exact map.facts map.classes c.args.form c.args.text.now.items c.write_map.new.text.items c.in-Ok-write_map.ensures

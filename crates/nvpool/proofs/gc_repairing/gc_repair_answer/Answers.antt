@@ -1,8 +1,0 @@
-use Rattle.nvpool.specs.declared.cause.Cause.TheVariants.{Image}
-use Rattle.nvpool.specs.Repairing.{gc_repairing}
-use Rattle.nvpool.proofs.Answering.{refused_image}
-use Rattle.nvpool.proofs.gc_repairing.gc_repair_answer.Goals as goal
-
-pub returns-in-Err-Defect : goal.returns-in-Err-Defect
-returns-in-Err-Defect c =
-    refused_image gc_repairing c.args.words.now c.args.bytes (Image c.in-Err-Defect.arena c.in-Err-Defect.defect) c.fault_line.result (rw c.in-Err-Defect.field-0-is at c.in-Err-Defect.ensures.defect) c.fault_line.ensures
