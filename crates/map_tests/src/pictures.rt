@@ -70,7 +70,7 @@ fn the_arena_before_the_cut_is_drawn(rt: HostRuntime) -> Result<(), Fail> {
     let alloc = rt.alloc();
     let calls = &CUT_TRACE[..CUT_TRACE.len() - LAST_LINE];
     let before = makes(&rt, alloc, "cut 0 219 1", calls, 1_048_576, 1_524_496_368)?;
-    makes(&rt, alloc, "map", &before, 8025, 2_365_526_607)?;
+    makes(&rt, alloc, "map", &before, 8866, 950_885_593)?;
     Ok(())
 }
 
@@ -85,9 +85,9 @@ fn the_arena_that_was_cut_and_recovered_is_drawn(rt: HostRuntime) -> Result<(), 
         1_048_576,
         1_933_913_770,
     )?;
-    makes(&rt, alloc, "map", &cut, 8546, 3_593_880_760)?;
+    makes(&rt, alloc, "map", &cut, 9347, 1_808_441_894)?;
     let recovered = makes(&rt, alloc, "repair", &cut, 1_048_576, 2_062_166_356)?;
-    makes(&rt, alloc, "map", &recovered, 8025, 2_365_526_607)?;
+    makes(&rt, alloc, "map", &recovered, 8866, 950_885_593)?;
     Ok(())
 }
 
@@ -95,6 +95,6 @@ fn the_arena_that_was_cut_and_recovered_is_drawn(rt: HostRuntime) -> Result<(), 
 fn the_small_arena_is_drawn(rt: HostRuntime) -> Result<(), Fail> {
     let alloc = rt.alloc();
     let small = makes(&rt, alloc, "cut 0 117 1", SMALL_TRACE, 262_144, 119_368_188)?;
-    makes(&rt, alloc, "map", &small, 4831, 3_680_985_474)?;
+    makes(&rt, alloc, "map", &small, 5407, 2_268_875_386)?;
     Ok(())
 }
