@@ -1,4 +1,4 @@
-// Images made by hand.
+// Images of the LOG variant made by hand, of arenas whose heaps have 12 granules.
 use std::alloc::{AllocError, Global};
 
 /// Bytes of an image: where they begin, and what they are.
@@ -9,35 +9,40 @@ pub(crate) const SMALL: usize = 262144;
 
 pub(crate) const SMALL_2: usize = 409600;
 
-/// An arena of 16 granules that has nothing.
+/// An arena that has nothing.
 pub(crate) const EMPTY: [Run; 3] = [
     (0, b"NVALLOG1"),
     (8, &[1, 0, 0, 0, 16, 0, 1, 0]),
     (16, &[1]),
 ];
 
-/// One of 25 granules, of version 2.
+/// The same of version 2.
 pub(crate) const EMPTY_2: [Run; 3] = [
     (0, b"NVALLOG1"),
     (8, &[2, 0, 0, 0, 25, 0, 1, 0]),
     (16, &[1]),
 ];
 
-/// The same, but for the directory, which names no chunk that there is.
-pub(crate) const UNSOUND: [Run; 3] = [
+/// One large block of all granules, of root 0, whose first and last words are not 0.
+pub(crate) const FULL: [Run; 7] = [
     (0, b"NVALLOG1"),
     (8, &[1, 0, 0, 0, 16, 0, 1, 0]),
-    (16, &[17]),
+    (16, &[1]),
+    (16384, &[0, 0, 1]),
+    (49216, &[1, 4, 0, 12]),
+    (65536, &[7]),
+    (262136, &[9]),
 ];
 
-/// Two arenas that have nothing, and the directory of the second names no chunk that there is.
-pub(crate) const SECOND_UNSOUND: [Run; 6] = [
+/// The same of version 2.
+pub(crate) const FULL_2: [Run; 7] = [
     (0, b"NVALLOG1"),
-    (8, &[1, 0, 0, 0, 16, 0, 2, 0]),
+    (8, &[2, 0, 0, 0, 25, 0, 1, 0]),
     (16, &[1]),
-    (262144, b"NVALLOG1"),
-    (262152, &[1, 0, 1, 0, 16, 0, 2, 0]),
-    (262160, &[17]),
+    (16384, &[0, 64, 3]),
+    (147520, &[1, 13, 0, 12]),
+    (212992, &[7]),
+    (409592, &[9]),
 ];
 
 /// One slab of class 6, whose block 0 root 5 holds; the block has two words other than 0.
@@ -53,6 +58,19 @@ pub(crate) const ONE_BLOCK: [Run; 9] = [
     (67688, &[1]),
 ];
 
+/// The same of version 2.
+pub(crate) const ONE_BLOCK_2: [Run; 9] = [
+    (0, b"NVALLOG1"),
+    (8, &[2, 0, 0, 0, 25, 0, 1, 0]),
+    (16, &[1]),
+    (16424, &[0, 72, 3]),
+    (147520, &[2, 13]),
+    (212992, &[1, 6]),
+    (213056, &[1]),
+    (215040, &[239, 205, 171, 137, 103, 69, 35, 1]),
+    (215144, &[1]),
+];
+
 /// The same, cut off while the block was going: the entry of the first line names root 5 and the block, and the root holds
 /// nothing. So the entry is loose, the block, and its slab, in which no root's block lies.
 pub(crate) const CUT_OFF: [Run; 7] = [
@@ -65,7 +83,7 @@ pub(crate) const CUT_OFF: [Run; 7] = [
     (65600, &[1]),
 ];
 
-/// A large block of 8 granules, of root 0, and a slab at granule 12 that took class 19 and was of class 3 before: root 1 holds
+/// A large block of 8 granules, of root 0, and a slab behind it that took class 19 and was of class 3 before: root 1 holds
 /// block 0 of class 3, and root 2 block 1 of class 19. No granule is free.
 pub(crate) const IN_TRANSITION: [Run; 11] = [
     (0, b"NVALLOG1"),
@@ -81,13 +99,45 @@ pub(crate) const IN_TRANSITION: [Run; 11] = [
     (197184, &[1]),
 ];
 
+/// The same of version 2.
+pub(crate) const IN_TRANSITION_2: [Run; 11] = [
+    (0, b"NVALLOG1"),
+    (8, &[2, 0, 0, 0, 25, 0, 1, 0]),
+    (16, &[1]),
+    (16385, &[64, 3]),
+    (16393, &[72, 5]),
+    (16401, &[76, 5]),
+    (147520, &[1, 13, 0, 8]),
+    (147584, &[2, 21]),
+    (344064, &[3, 19, 3, 1]),
+    (344192, &[1]),
+    (344640, &[1]),
+];
+
+/// Two arenas: the first has nothing, and in the second root 5 has a large block of two granules.
+pub(crate) const TWO: [Run; 8] = [
+    (0, b"NVALLOG1"),
+    (8, &[1, 0, 0, 0, 16, 0, 2, 0]),
+    (16, &[1]),
+    (262144, b"NVALLOG1"),
+    (262152, &[1, 0, 1, 0, 16, 0, 2, 0]),
+    (262160, &[1]),
+    (278569, &[128, 1]),
+    (311360, &[1, 6, 0, 2]),
+];
+
 /// So many bytes, of which those of a row are not 0.
 pub(crate) fn image_of(alloc: Global, size: usize, runs: &[Run]) -> Result<Vec<u8>, AllocError> {
     let mut bytes = vec![in alloc; 0u8; size]?;
-    for (at, run) in runs {
-        put(&mut bytes, *at, run);
-    }
+    lay(&mut bytes, runs);
     Ok(bytes)
+}
+
+/// Puts the runs of a row into an image.
+pub(crate) fn lay(bytes: &mut [u8], runs: &[Run]) {
+    for (at, run) in runs {
+        put(bytes, *at, run);
+    }
 }
 
 // Puts a run into an image, as far as it lies inside.

@@ -46,7 +46,7 @@ fn weighs<R: Abort>(rt: &R, file: &[u8], length: usize, sum: u32) {
 }
 
 /// So does what a run over bytes writes, which is given.
-fn makes<R: Abort>(
+pub(crate) fn makes<R: Abort>(
     rt: &R,
     alloc: Global,
     line: &str,

@@ -69,17 +69,6 @@ pub(crate) fn written(alloc: Global, line: &str, input: &[u8]) -> Result<Vec<u8>
     Ok(sink.bytes().to_vec(alloc)?)
 }
 
-/// What a run over an image writes, with the words of a line.
-pub(crate) fn written_of(
-    alloc: Global,
-    line: &str,
-    size: usize,
-    image: &[Run],
-) -> Result<Vec<u8>, Fail> {
-    let bytes = image_of(alloc, size, image)?;
-    written(alloc, line, &bytes)
-}
-
 /// A run of `nvheap` over bytes is done and writes this text, with the words of a line.
 pub(crate) fn says<R: Abort + Threads + Wait + Sync>(
     rt: &R,
