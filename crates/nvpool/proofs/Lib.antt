@@ -8,6 +8,5 @@ pub mod Completeness
 pub mod Told
 pub mod Aligned
 pub mod Dumps
-pub mod GcRepairs
 pub mod Repairs
 pub mod Cuts
