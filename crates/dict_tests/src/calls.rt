@@ -131,13 +131,28 @@ fn looks<R: Abort>(rt: &R, dict: &Dict<SimPmem>) -> Result<(), Fail> {
     Ok(())
 }
 
+// The same of what is opened of the dictionary's arena.
+fn looks_again<R: Abort>(rt: &R, alloc: Global, dict: Dict<SimPmem>) -> Result<(), Fail> {
+    let again = opened(alloc, dict.into_arena())?;
+    looks(rt, &again)
+}
+
+// It is changed, and looked at.
+fn changes<R: Abort>(rt: &R, dict: &mut Dict<SimPmem>) -> Result<(), Fail>
+    requires { dict.old.phase ≡ Idle }
+    ensures { OnOk result (IsAtRest dict.new) }
+{
+    change(dict)?;
+    looks(rt, dict)
+}
+
 #[test]
 fn pairs_are_put_read_and_removed(rt: HostRuntime) -> Result<(), Fail> {
     let mut dict = opened(rt.alloc(), new_arena(rt.alloc())?)?;
-    change(&mut dict)?;
-    looks(&rt, &dict)?;
-    let again = opened(rt.alloc(), dict.into_arena())?;
-    looks(&rt, &again)
+    match changes(&rt, &mut dict) {
+        Ok(()) => looks_again(&rt, rt.alloc(), dict),
+        Err(fail) => Err(fail),
+    }
 }
 
 // The number of the pair that a root has, on the words of its block.
