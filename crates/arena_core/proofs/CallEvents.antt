@@ -1,6 +1,6 @@
 -- What a call has done, put together: by the place of its block.
 use Rattle.std.proofs.Common.{◌==◌, ◌≡◌, ◌≢◌, ◌*◌, ◌/◌, ◌+◌, ◌%◌, ◌<◌, ◌≤◌, ℕ, true, false, cond, leb, List, [], Option, Some, refl, sym, ap, ◌∙◌, arith, ◌++◌, ◌&&◌}
-use Rattle.arena_core.proofs.Common.{IsUnusedIn-same, ne_eqb, class_size, class_capacity, class_size-least, class_size-most, class_size-rises, Event, reading, PmemState, words_of, IsQuietStep, step_none, Tables, tables_of, stacks_of, Call, Reply, Bounds, Range, slab_block, is_old, heap, slabs, Holds, IsVacant, IsInSlab, IsSound, IsInSlab-held, SmallBlock, attach_events, detach_old_events, bounds_of, IsExactImage, IsEitherHeap, live_in, IsCurrent, IsArena, Volatile, IsStepOf, IsStepOfAny, IsDone, IsCalled, GivesRoot, KeepsSlabs, IsNamedSmall, IsHeldBy, range_held, IsNamedOld, sizes_of, start_at, place_events, take_events, placed_events, freed_events, call_events, line_after, tidy_events, OldBlock, Held, is_old-held, same_heap, counts_kept, normal_of-same}
+use Rattle.arena_core.proofs.Common.{bounds_of-same, IsUnusedIn-same, ne_eqb, class_size, class_capacity, class_size-least, class_size-most, class_size-rises, Event, reading, PmemState, words_of, IsQuietStep, step_none, Tables, tables_of, stacks_of, Call, Reply, Bounds, Range, slab_block, is_old, heap, slabs, Holds, IsVacant, IsInSlab, IsSound, IsInSlab-held, SmallBlock, attach_events, detach_old_events, bounds_of, IsExactImage, IsEitherHeap, live_in, IsCurrent, IsArena, Volatile, IsStepOf, IsStepOfAny, IsDone, IsCalled, GivesRoot, KeepsSlabs, IsNamedSmall, IsHeldBy, range_held, IsNamedOld, sizes_of, start_at, place_events, take_events, placed_events, freed_events, call_events, line_after, tidy_events, OldBlock, Held, is_old-held, same_heap, counts_kept, normal_of-same}
 use Rattle.std.proofs.lemmas.Bool.{lt-leb}
 use Rattle.heap_model.specs.declared.call.Reply.TheVariants as replies
 use Rattle.heap_check.specs.Heap.{slab_of}
@@ -144,7 +144,7 @@ pub IsDone-large : {old new : PmemState} {was left : Volatile} {root : ℕ} {blo
     IsQuietStep old new events (IsEitherHeap (words_of old) (words_of new)) → IsCurrent new left → GivesRoot (words_of old) root block (slabs (tables_of (words_of old))) (words_of new) → KeepsSlabs (words_of old) (words_of new) →
     IsDone old new left root block (slabs (tables_of (words_of old))) events
 IsDone-large {old} {new} {was} {left} {root} {block} {events} arena same same_lives lives step kept gives keeps =
-    let granules = ap (λ (b : Bounds). b.granules) gives.bounds in
+    let granules = ap (λ (b : Bounds). b.granules) (bounds_of-same (words_of old) (words_of new) gives.header) in
     let counts = counts_kept (words_of old) (words_of new) was.lives.counts granules lives arena.lives.counts in
     let lives_now = lives_kept (words_of old) (words_of new) was.lives was.lives counts arena.lives (λ s. refl) (λ s. normal_of-same (tables_of (words_of old)) (tables_of (words_of new)) s (keeps.each s)) refl (λ s class number. (IsUnusedIn-same (keeps.each s) class number).1) in
     record { step = step; current = kept; slabs = rw same (slabs_kept was.supply keeps granules arena.slabs); lives = rw same_lives lives_now; gives = gives }

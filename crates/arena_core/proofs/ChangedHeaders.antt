@@ -1,7 +1,7 @@
 -- The header of a slab changed, and each slab holds the blocks that it held: what stands beside the words and knows of the
 -- header no more than that holds again. So it is where a slab took another class.
 use Rattle.std.proofs.Common.{refl, length, [], ◌+◌, ◌*◌, ◌/◌, ◌≡◌, ◌↔◌, ℕ, true, List, ap, arith, ◌≢◌, ◌==◌, ◌<◌, ◌≤◌, Bool, false, Some, None, sym, ◌∙◌, subst, inl, if◌then◌else◌}
-use Rattle.arena_core.proofs.Common.{is_unfit, normal_of, PmemState, words_of, Volatile, IsQuietStep, step_wider, HasClassNow, Tables, tables_of, Book, FreeSet, IsUnusedIn, IsSound, granules_at, bounds_of, granules_at-slab, IsBookOf, SlabHeader, put_header, IsIndexOf, cond-true, class_capacity, HasNoMove-closed, normal_kind, Bounds, with_key, class_in, Lives, normal_at, Supply, MayBeGiven, IsClearOf, HasSlabMore, HasSlabLess, slabs, IsExactImage, Covers-slab, IsSlabsOf, AreCountsOf, IsMorphable, MayTakeClass, granule_word, morph_events, counts_kept, live_same, slab_parts, iff_then, with_key-is, with_key-twice}
+use Rattle.arena_core.proofs.Common.{SameLog, is_unfit, normal_of, PmemState, words_of, Volatile, IsQuietStep, step_wider, HasClassNow, Tables, tables_of, Book, FreeSet, IsUnusedIn, IsSound, granules_at, bounds_of, granules_at-slab, IsBookOf, SlabHeader, put_header, IsIndexOf, cond-true, class_capacity, HasNoMove-closed, normal_kind, Bounds, with_key, class_in, Lives, normal_at, Supply, MayBeGiven, IsClearOf, HasSlabMore, HasSlabLess, slabs, IsExactImage, Covers-slab, IsSlabsOf, AreCountsOf, IsMorphable, MayTakeClass, granule_word, morph_events, counts_kept, live_same, slab_parts, iff_then, with_key-is, with_key-twice}
 use Rattle.image_tables.proofs.Headers.{SameLog-off_header}
 use Rattle.image_tables.proofs.Updates.{put_header-same, put_header-other}
 use Rattle.slab_morph.specs.Stages.{IsOffHeader, AllHoldSame, morphed, morph_count}
@@ -35,11 +35,15 @@ module _ {words : List ℕ} {start : ℕ} {header : SlabHeader} {new : List ℕ}
   pub header_other : (s : ℕ) → s ≢ start → (tables_of new).header s ≡ (tables_of words).header s
   header_other s differ = row (λ x. x.header s) ∙ put_header-other (tables_of words) start header s differ
 
-  pub book_header : (book : Book) → IsBookOf book words → IsBookOf book new
-  book_header book log =
+  -- the words of the log are the same
+  pub log_header : SameLog words new
+  log_header =
       let four = granules_at-slab (tables_of words) start change.slab in
       let lies = change.sound.extents.starts start (omega (arith, four)) in
-      book_same book (SameLog-off_header words new start (record { in_heap = lies.0; others = change.off.others })) change.off.same_length change.bounds log
+      SameLog-off_header words new start (record { in_heap = lies.0; others = change.off.others })
+
+  pub book_header : (book : Book) → IsBookOf book words → IsBookOf book new
+  book_header book = book_same book log_header change.off.same_length change.bounds
 
   pub index_header : (set : FreeSet) → IsIndexOf set words → IsIndexOf set new
   index_header set = index_as set change.bounds (λ other. row (λ x. granules_at x other))
@@ -145,7 +149,7 @@ module _ (device u : PmemState) (volatile : Volatile) (start class : ℕ) (may :
       let came : HasClassNow device u volatile (record volatile { supply = mid; lives = next }) start class (morph_events t start class) = record {
         step = step_wider (λ image left. record { steady = left.keeps.steady; bounds = left.keeps.bounds; heap = inl left.keeps.heap; words = left.keeps.blocks; still = HasNoMove-closed left.closed }) step;
         arena = record {
-          ready = ready_after current.ready step.appends.room step.quiet current.exact.formed taken.exact.formed taken.bounds;
+          ready = ready_after current.ready step.appends.room step.quiet (log_header class_change).fields;
           image = record { formed = taken.exact.formed; but = IsExactBut-exact taken.exact.exact start };
           slab = slab_now start ∙ may.morphable.slab;
           log = book_header class_change volatile.log current.log;
@@ -168,7 +172,7 @@ module _ (device u : PmemState) (volatile : Volatile) (start class : ℕ) (may :
         heap = taken.left.keeps.heap;
         roots = λ root. ap (λ (x : Tables). x.root root) taken.tables;
         keeps = taken.left.keeps.blocks;
-        bounds = taken.bounds;
+        header = (log_header class_change).fields;
         line = refl;
         room = omega (arith, few_changes t start class may.morphable, ap length fresh, count, step.appends.room, room_of current.ready);
       } in

@@ -54,7 +54,7 @@ pub use Rattle.heap_check.specs.Sound.{IsDoneSlab, IsInSlab, IsSound, granules_a
 pub use Rattle.heap_check.specs.State.{HasState, KeepsBlocks, HasValue, IsEitherHeap, HaveSameHeap}
 pub use Rattle.heap_check.proofs.Blank.{IsSteady-but, law_of_steady}
 pub use Rattle.heap_check.proofs.Claims.{plain_size, IsNamed-claim, IsClaim-word}
-pub use Rattle.heap_check.proofs.Forms.{AreSlabsInHeap-sound}
+pub use Rattle.heap_check.proofs.Forms.{AreSlabsInHeap-sound, bounds_of-same}
 pub use Rattle.heap_check.proofs.Geometry.{granules_at-slab, granules_at-live, is_large-start, Covers-slab, granules_at-large, slab_is}
 pub use Rattle.heap_check.proofs.Heaps.{heap-claim, IsClaim-heap, heap-none}
 pub use Rattle.heap_check.proofs.Large.{with_large, IsLargePlace}

@@ -1,6 +1,6 @@
 -- A large block is given to a root, or taken from it: the image at each of the stores, and what a crash leaves.
 use Rattle.std.proofs.Common.{ap, ◌∙◌, ◌≡◌, ◌≢◌, ◌⊎◌, ℕ, ◌*◌, List, ◌++◌, refl, sym, subst, arith, inl, inr, ⊎_elim, ◌+◌, ◌<◌, ◌≤◌, Some, None}
-use Rattle.arena_core.proofs.Common.{cases_eq, put_word, reading, PmemState, words_of, IsQuietStep, step_by, step_then, step_wider, root_word, Tables, tables_of, put_at, put_at-same, put_at-other, IsLooseExtent, Large, Tomb, bounds_of, IsExactImage, AreSlabsInHeap-sound, granules_at-large, IsLargePlace, HaveSameHeap, KeepsBlocks, IsEitherHeap, root_events, PutsRootOrNot, place_events, take_events, IsLogged, IsLoggedOrNot, IsGivable, IsTakable, sizes_of, root_inside, HasNoMove-closed, Covers, GivesRoot, KeepsSlabs, slabs, live_in, heap-none, Bounds, log_events, same_heap, steps_then, IsStageOf, keeps_stage, FreeSet, IsIndexOf}
+use Rattle.arena_core.proofs.Common.{bounds_of-same, cases_eq, put_word, reading, PmemState, words_of, IsQuietStep, step_by, step_then, step_wider, root_word, Tables, tables_of, put_at, put_at-same, put_at-other, IsLooseExtent, Large, Tomb, bounds_of, IsExactImage, AreSlabsInHeap-sound, granules_at-large, IsLargePlace, HaveSameHeap, KeepsBlocks, IsEitherHeap, root_events, PutsRootOrNot, place_events, take_events, IsLogged, IsLoggedOrNot, IsGivable, IsTakable, sizes_of, root_inside, HasNoMove-closed, Covers, GivesRoot, KeepsSlabs, slabs, live_in, heap-none, Bounds, log_events, same_heap, steps_then, IsStageOf, keeps_stage, FreeSet, IsIndexOf}
 use Rattle.extent_index.specs.FreeSet.{IsHeldRow}
 use Rattle.heap_check.proofs.LargePlaces.{IsLargePlace-vacant, IsLargePlace-named}
 use Rattle.arena_core.proofs.LargeStages.{stage_same, stage_entry}
@@ -127,11 +127,11 @@ module _ (words : List ℕ) (root start count : ℕ) (exact : IsExactImage words
 pub live_given_large : (words new : List ℕ) (root start count : ℕ) → IsExactImage words → IsGivable (bounds_of words) (tables_of words) root start count → IsExactImage new →
     GivesRoot words root (Some (record { at = 16384 * start; size = 16384 * count })) (slabs (tables_of words)) new → KeepsSlabs words new → (tables_of new).large start ≡ count → (s : ℕ) → live_in new s ≡ live_in words s
 live_given_large words new root start count image may after gives keeps large =
-    live_in-large words new root start count after.exact.sound large (omega (arith, may.many)) may.below gives.bounds (λ s. (keeps.each s).slab) (heap-none (tables_of words) root may.none) gives.here gives.others
+    live_in-large words new root start count after.exact.sound large (omega (arith, may.many)) may.below (bounds_of-same words new gives.header) (λ s. (keeps.each s).slab) (heap-none (tables_of words) root may.none) gives.here gives.others
 
 -- and where it lost it
 pub live_taken_large : (words new : List ℕ) (root start count : ℕ) → IsExactImage words → IsTakable (bounds_of words) (tables_of words) root start count →
     GivesRoot words root None (slabs (tables_of words)) new → KeepsSlabs words new → (s : ℕ) → live_in new s ≡ live_in words s
 live_taken_large words new root start count image taken gives keeps s =
-    sym (live_in-large new words root start count image.exact.sound taken.live (omega (arith, taken.many)) (subst (λ (b : Bounds). root < b.roots) (sym gives.bounds) taken.below) (sym gives.bounds) (λ s. sym (keeps.each s).slab) gives.here
+    sym (live_in-large new words root start count image.exact.sound taken.live (omega (arith, taken.many)) (subst (λ (b : Bounds). root < b.roots) (sym (bounds_of-same words new gives.header)) taken.below) (sym (bounds_of-same words new gives.header)) (λ s. sym (keeps.each s).slab) gives.here
     (heap-takable (bounds_of words) (tables_of words) root start count (omega (arith, (sizes_of words image.formed).first)) taken) (λ other differ. sym (gives.others other differ)) s)

@@ -1,6 +1,6 @@
 -- A large extent and its root come and go: what a change of the log leads to, and what a call has done.
 use Rattle.std.proofs.Common.{◌<◌, ◌≡◌, ℕ, ◌*◌, false, List, sym, ap, ◌∙◌, arith, Some, None}
-use Rattle.arena_core.proofs.Common.{Tables, large_of, is_slab_of, is_slab, tables_of, put_at, put_at-same, put_at-own, large_table, slab_table, start_of, extent_of, heap, slabs, bounds_of, IsExactImage, IsLargePlace, GivesRoot, AreSlabsInHeap-sound, IsExtentGone, Bounds, IsTakable, is_large-start, extent_at, LogEntry, IsStageOf, keeps_stage}
+use Rattle.arena_core.proofs.Common.{word_at, fields_word, Tables, large_of, is_slab_of, is_slab, tables_of, put_at, put_at-same, put_at-own, large_table, slab_table, start_of, extent_of, heap, slabs, bounds_of, IsExactImage, IsLargePlace, GivesRoot, AreSlabsInHeap-sound, IsExtentGone, Bounds, IsTakable, is_large-start, extent_at, LogEntry, IsStageOf, keeps_stage}
 use Rattle.image_tables.specs.Updates.{with_root}
 use Rattle.image_tables.proofs.Updates.{put_at-twice}
 use Rattle.image_tables.proofs.Stores.{version_in-off_log, heap_word-off_log, tables_off_log}
@@ -56,22 +56,22 @@ stage_gone words root start here word made image stage gone = grind (arith, AreS
 -- what a call has done
 
 module _ {words : List ℕ} {root start count : ℕ} (exact : IsExactImage words) (place : IsLargePlace (bounds_of words) (tables_of words) root start count) where
-  pub gives_none : (here : ℕ) (image : List ℕ) → IsStageOf words root start here 0 image → GivesRoot words root None (slabs (tables_of words)) image
-  gives_none here image stage = record {
+  pub gives_none : (here : ℕ) (image : List ℕ) → word_at image fields_word ≡ word_at words fields_word → IsStageOf words root start here 0 image → GivesRoot words root None (slabs (tables_of words)) image
+  gives_none here image header stage = record {
     here = none_stage exact place here image stage;
     others = others_stage exact place here 0 image stage;
     slabs = slabs_stage exact place here 0 image stage;
     keeps = keeps_stage exact place here 0 image stage;
-    bounds = stage.bounds;
+    header = header;
   }
 
-  pub gives_some : (image : List ℕ) → IsStageOf words root start count (16384 * start) image → GivesRoot words root (Some (large_block start count)) (slabs (tables_of words)) image
-  gives_some image stage = record {
+  pub gives_some : (image : List ℕ) → word_at image fields_word ≡ word_at words fields_word → IsStageOf words root start count (16384 * start) image → GivesRoot words root (Some (large_block start count)) (slabs (tables_of words)) image
+  gives_some image header stage = record {
     here = some_stage exact place image stage;
     others = others_stage exact place count (16384 * start) image stage;
     slabs = slabs_stage exact place count (16384 * start) image stage;
     keeps = keeps_stage exact place count (16384 * start) image stage;
-    bounds = stage.bounds;
+    header = header;
   }
 
 -- the block of a root that names a large extent

@@ -21,6 +21,7 @@ pub mod BestSlabs
 pub mod AdoptedExtents
 pub mod AdoptedSlabs
 pub mod PayloadImages
+pub mod WrittenWords
 pub mod PayloadCalls
 pub mod MovesCalls
 pub mod Answering

@@ -1,7 +1,7 @@
 -- What a malloc or a free has done, put together: a malloc by its plan, of which all but the supply of an arena is as it was,
 -- and a free by what the root held.
 use Rattle.std.proofs.Common.{◌≡◌, ℕ, ◌<◌, Option, Some, None, Result, Ok, Err, refl, sym, ap, subst, ◌∙◌, List, ◌+◌, ◌*◌, ◌%◌, inl, inr, ⊎_elim, arith, ◌++◌}
-use Rattle.arena_core.proofs.Common.{place_events, placed_events, line_after, sizes_of, slabs, IsUnusedIn, attach_events, class_in, Site, IsSite, range_of, slabs_with, Event, PmemState, words_of, began, Tables, tables_of, class_size, class_capacity, Bounds, slab_block, class_small, Supply, MayBeGiven, HasSlabMore, HasSlabLess, TookBlock, Volatile, AreLivesOf, bounds_of, malloc_reply, IsCalled, IsHeldFor, IsDone, HasClassNow, IsSlabFor, SmallBlock, IsArena, IsAskedOf, tables_view, reading, stacks_of, IsPutOn, Range, heap, IsInSlab, OldBlock, detach_events, detach_old_events, free_reply, IsTaken, IsTidied, stacks_but, holds_none, take_events, freed_events, tidy_events, IsTakable, IsNamedSmall, IsNamedOld, IsFreePlan, open_events, none_open, morph_events, Granules, InSlab, InMorph, InNewSlab, Small, Morph, Fresh, MallocRefusal, NoSpace, MayOpen, MayTakeClass, FreeRefusal, slab_parts}
+use Rattle.arena_core.proofs.Common.{bounds_of-same, place_events, placed_events, line_after, sizes_of, slabs, IsUnusedIn, attach_events, class_in, Site, IsSite, range_of, slabs_with, Event, PmemState, words_of, began, Tables, tables_of, class_size, class_capacity, Bounds, slab_block, class_small, Supply, MayBeGiven, HasSlabMore, HasSlabLess, TookBlock, Volatile, AreLivesOf, bounds_of, malloc_reply, IsCalled, IsHeldFor, IsDone, HasClassNow, IsSlabFor, SmallBlock, IsArena, IsAskedOf, tables_view, reading, stacks_of, IsPutOn, Range, heap, IsInSlab, OldBlock, detach_events, detach_old_events, free_reply, IsTaken, IsTidied, stacks_but, holds_none, take_events, freed_events, tidy_events, IsTakable, IsNamedSmall, IsNamedOld, IsFreePlan, open_events, none_open, morph_events, Granules, InSlab, InMorph, InNewSlab, Small, Morph, Fresh, MallocRefusal, NoSpace, MayOpen, MayTakeClass, FreeRefusal, slab_parts}
 use Rattle.arena_core.proofs.StackSteps.{IsSuppliedFresh, IsSuppliedMorph}
 use Rattle.arena_core.proofs.MachineSteps.{IsServedAt, placed_reply, placed_step, refused_malloc, Returns, refused_free, freed_step, large_stays, small_stays, large_returned, small_returned, old_returned}
 use Rattle.arena_core.proofs.CallEvents.{IsCalled-done, IsCalled-refused, placed_large, line_large, placed_there, placed_morph, placed_fresh, start_is, line_small, freed_large, freed_there, named_lies, named_new, old_lies, old_differs, freed_old}
@@ -65,7 +65,7 @@ came_for {old} {mid} {was} {now} {part} {seat} {root} planned is_class came numb
       few = omega (arith, came.line, line_same was now planned.rest, planned.arena.few);
       is_class = is_class;
       class_is = came.class_is;
-      below = subst (λ (b : Bounds). root < b.roots) (sym came.bounds) asked.below;
+      below = subst (λ (b : Bounds). root < b.roots) (sym (bounds_of-same (words_of old) (words_of mid) came.header)) asked.below;
       none = came.roots root ∙ asked.none;
       number = number;
       is_open = is_open;

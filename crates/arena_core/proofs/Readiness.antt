@@ -1,18 +1,24 @@
 -- A memory that is ready: which events there is room for, and that it stays so.
-use Rattle.std.proofs.Common.{◌≡◌, ◌+◌, ◌≤◌, ap, arith}
-use Rattle.arena_core.proofs.Common.{IsQuiet, PmemState, words_of, version_in, layout_rules, bounds_of, IsFormed, IsReady, sizes_of, root_inside}
+use Rattle.std.proofs.Common.{◌≡◌, ◌+◌, ◌<◌, ◌≤◌, ℕ, List, ap, arith, inl}
+use Rattle.arena_core.proofs.Common.{IsQuiet, PmemState, words_of, version_in, layout_rules, IsReady, word_at, fields_word, log_start-low, sizes_of, root_inside}
 use Rattle.pool_layout.specs.declared.layout.Layout.{Layout}
 use Rattle.pool_layout.specs.Layout.{layout_of}
+use Rattle.pool_layout.specs.Header.{version_field}
 use Rattle.pool_layout.proofs.Layouts.{first_row, second_row}
+use Rattle.image_tables.proofs.Stores.{version_in-put_root}
+use Rattle.extent_steps.specs.Slabs.{KeepsAllButSlab}
 use Rattle.log_steps.proofs.Entries.{most_few}
-use Rattle.heap_check.proofs.Sizes.{version_by_bounds}
 
--- it is ready again where it is quiet and its image has the same numbers
-pub ready_after : {old new : PmemState} → IsReady old → new.room ≡ old.room → IsQuiet new.events → IsFormed (words_of old) → IsFormed (words_of new) → bounds_of (words_of new) ≡ bounds_of (words_of old) → IsReady new
-ready_after {old} {new} ready same quiet formed formed_new bounds = record {
-  quiet = quiet;
-  room = omega (arith, ready.room, same, ap (λ version. (layout_of version).room) (version_by_bounds (words_of old) (words_of new) formed formed_new bounds));
-}
+-- it is ready again where it is quiet and its header has the same fields
+pub ready_after : {old new : PmemState} → IsReady old → new.room ≡ old.room → IsQuiet new.events → word_at (words_of new) fields_word ≡ word_at (words_of old) fields_word → IsReady new
+ready_after {old} {new} ready same quiet header = record { quiet = quiet; room = omega (arith, ready.room, same, ap (λ fields. (layout_of (version_field fields)).room) header) }
+
+-- the fields stay where a slab is opened or dropped
+pub fields_kept : {words new : List ℕ} {start : ℕ} → KeepsAllButSlab words start new → 0 < start → word_at new fields_word ≡ word_at words fields_word
+fields_kept {words} rest some = rest.others fields_word (λ e. omega (arith, e)) (inl (omega (arith, log_start-low (version_in words)))) (inl (omega (arith, some)))
+
+-- the version stays where a root's word is stored
+pub ruleset root_rules = (version_in-put_root)
 
 -- the room of any version
 pub room_of : {device : PmemState} → IsReady device → 2048 ≤ device.room

@@ -4,7 +4,7 @@ use Rattle.arena_core.proofs.Common.{IsUnusedIn-same, IsSameSlab, put_at, normal
 use Rattle.arena_core.proofs.Readiness.{ready_after}
 use Rattle.image_tables.specs.Updates.{put_in}
 use Rattle.attach_steps.specs.Steps.{IsAttached}
-use Rattle.arena_core.proofs.SmallCalls.{unused_beside, unused_given, slabs_used, used_given, IsBlockChange, book_small, change_bit, change_index, gives_small, index_small, slabs_with, slabs_less, slabs_missing, named_used, unused_taken, slabs_without}
+use Rattle.arena_core.proofs.SmallCalls.{unused_beside, unused_given, slabs_used, used_given, IsBlockChange, log_small, book_small, change_bit, change_index, gives_small, index_small, slabs_with, slabs_less, slabs_missing, named_used, unused_taken, slabs_without}
 use Rattle.arena_core.proofs.Tidying.{last_of}
 use Rattle.arena_core.proofs.HeldBlocks.{heap_held, class_holds, old_holds}
 use Rattle.heap_check.proofs.SmallPlaces.{IsWithin-block, in_slab}
@@ -50,7 +50,7 @@ taken_by {old} {new} was fewer lives_left {root} {start} {k} bits lives {events}
     record {
       step = step;
       untidy = record {
-        ready = ready_after current.ready step.appends.room step.quiet current.exact.formed image.formed bounds;
+        ready = ready_after current.ready step.appends.room step.quiet (log_small change left rest).fields;
         image = image;
         slab = slab;
         log = book_small change left rest bounds was.log current.log;
@@ -59,7 +59,7 @@ taken_by {old} {new} was fewer lives_left {root} {start} {k} bits lives {events}
         lives = lives_are;
       };
       last = last_of t root start image.but slab change.slab (ap (λ (x : Tables). x.root root) tables ∙ put_at-same t.root root 0) (λ other differ. ap (λ (x : Tables). x.root other) tables ∙ put_at-other t.root root other 0 differ);
-      gives = gives_small change left rest bits lives false 0 bounds tables gives;
+      gives = gives_small change left rest bits lives false 0 tables gives;
       line = refl;
       few = few;
     }
@@ -126,7 +126,7 @@ done_taken {old} {mid} {new} {was} {part} {left} {root} {start} {events} taken t
         others = λ other differ. tidied.heap.each other ∙ taken.gives.others other differ;
         slabs = λ s. tidied.slab s ∙ (λ i. slabs_but (λ o. taken.gives.slabs o i) start (holds_none (tables_of (between_is i)) start) s);
         keeps = keeps_both _ _ _ (inr tidied.heap) taken.gives.keeps tidied.keeps;
-        bounds = tidied.bounds ∙ taken.gives.bounds;
+        header = tidied.header ∙ taken.gives.header;
       };
     }
 
@@ -200,7 +200,7 @@ given_done {old} {new} {was} {next} {root} {class} block held class_is step atta
     record {
       step = step;
       current = record {
-        ready = ready_after held.ready step.appends.room step.quiet block_in.image.formed attached.exact.formed attached.bounds;
+        ready = ready_after held.ready step.appends.room step.quiet (log_small change after attached.rest).fields;
         exact = attached.exact;
         log = book_small change after attached.rest attached.bounds was.log held.log;
         index = index_small words bits live_bits root true block.at after attached.bounds attached.tables was.free held.index;
@@ -209,7 +209,7 @@ given_done {old} {new} {was} {next} {root} {class} block held class_is step atta
           (subst (λ (x : Tables). ¬ (IsUnusedIn x block.start (x.header block.start).class block.number)) (sym attached.tables) (used_given words root block block.at block_in));
       lives = lives_kept words after was.lives next (counts_raised words after root block.start range was.lives.counts next.counts more size counts held.lives.counts) held.lives normal (λ s. ap (λ (x : Tables). normal_of x s) attached.tables) unfit
           (unused_given words root block block.at after block_in attached.bounds attached.tables);
-      gives = subst (λ c. GivesRoot words root (Some (slab_block block.start c block.number)) (slabs (tables_of words)) after) class_is (gives_small change after attached.rest bits live_bits true block.at attached.bounds attached.tables attached.gives);
+      gives = subst (λ c. GivesRoot words root (Some (slab_block block.start c block.number)) (slabs (tables_of words)) after) class_is (gives_small change after attached.rest bits live_bits true block.at attached.tables attached.gives);
     }
 
 -- the slab had come for it
@@ -226,6 +226,6 @@ done_behind {old} {mid} {new} second came done =
         others = λ other differ. done.gives.others other differ ∙ came.heap.each other;
         slabs = λ s. done.gives.slabs s ∙ came.slabs s;
         keeps = keeps_both _ _ _ (inl came.heap) came.keeps done.gives.keeps;
-        bounds = done.gives.bounds ∙ came.bounds;
+        header = done.gives.header ∙ came.header;
       };
     }

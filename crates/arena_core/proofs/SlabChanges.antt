@@ -1,13 +1,13 @@
 -- A slab comes or goes: what an arena keeps holds again.
 use Rattle.std.proofs.Common.{false, refl, length, [], ◌≡◌, ◌≢◌, ◌⊎◌, ◌↔◌, ◌==◌, ℕ, ◌+◌, ◌<◌, ◌≤◌, true, List, sym, ap, subst, ◌∙◌, arith, inl, inr, ⊎_elim, Some, if◌then◌else◌}
-use Rattle.arena_core.proofs.Common.{is_unfit, cond-true, cond-false, PmemState, words_of, Volatile, Book, IsQuietStep, IsEitherHeap, IsBookOf, HasClassNow, layout_of, version_in, class_capacity, Tables, tables_of, FreeSet, IsFree, Supply, MayBeGiven, IsClearOf, HasSlabMore, Bounds, with_key, slabs, IsUnusedIn, IsInSlab, IsDoneSlab, bounds_of, IsExactImage, IsExactButImage, granules_at-slab, Covers, Covers-slab, sizes_of, Lives, normal_at, IsIndexOf, AreCountsOf, normal_of, IsVacantRow, IsUnusedIn-same, live_below, IsFreeRow, slabs-other, IsSlabPlace, open_events, MayOpen, keeps_blocks, counts_kept, live_none, normal_of-same, with_key-is, slab_parts}
+use Rattle.arena_core.proofs.Common.{word_at, fields_word, is_unfit, cond-true, cond-false, PmemState, words_of, Volatile, Book, IsQuietStep, IsEitherHeap, IsBookOf, HasClassNow, layout_of, version_in, class_capacity, Tables, tables_of, FreeSet, IsFree, Supply, MayBeGiven, IsClearOf, HasSlabMore, Bounds, with_key, slabs, IsUnusedIn, IsInSlab, IsDoneSlab, bounds_of, IsExactImage, IsExactButImage, granules_at-slab, Covers, Covers-slab, sizes_of, Lives, normal_at, IsIndexOf, AreCountsOf, normal_of, IsVacantRow, IsUnusedIn-same, live_below, IsFreeRow, slabs-other, IsSlabPlace, open_events, MayOpen, keeps_blocks, counts_kept, live_none, normal_of-same, with_key-is, slab_parts}
 use Rattle.extent_index.specs.FreeSet.{IsHeldRow}
 use Rattle.heap_check.proofs.BlockWords.{block_word-vacant}
 use Rattle.heap_check.proofs.SlabHeaps.{slabs-slab, IsVacant-slab}
 use Rattle.heap_check.proofs.SlabPlaces.{IsSlabPlace-vacant}
 use Rattle.heap_check.proofs.Slabs.{holds_none-fresh}
 use Rattle.extent_steps.specs.Slabs.{IsSlabCreated}
-use Rattle.arena_core.proofs.Readiness.{ready_after, slab_room}
+use Rattle.arena_core.proofs.Readiness.{ready_after, fields_kept, slab_room}
 use Rattle.arena_core.proofs.SmallCalls.{of_each, blocks_kept}
 use Rattle.arena_core.proofs.LiveSlabs.{lives_put}
 use Rattle.arena_core.proofs.Arenas.{index_by, index_less}
@@ -43,6 +43,9 @@ module _ (device : PmemState) (volatile : Volatile) (start class : ℕ) (may : M
     open_place : IsSlabPlace (bounds_of words) t after start
     open_place = IsSlabPlace-vacant image.exact.sound image.exact.closed (omega (arith, (sizes_of words image.formed).first)) opened.slab may.row.vacant
 
+    header_opened : word_at (words_of u) fields_word ≡ word_at (words_of device) fields_word
+    header_opened = fields_kept opened.rest (omega (arith, open_place.first, open_place.low))
+
     classes_opened : (s : ℕ) → slabs after s ≡ with_key (slabs t) start (Some class) s
     classes_opened = with_key-is (slabs t) (slabs after) start (Some class) (slabs-slab open_place class opened.slab.fresh) (slabs-other open_place)
 
@@ -66,7 +69,7 @@ module _ (device : PmemState) (volatile : Volatile) (start class : ℕ) (may : M
         record {
           step = step;
           arena = record {
-            ready = ready_after ready step.appends.room step.quiet image.formed opened.image.formed opened.bounds;
+            ready = ready_after ready step.appends.room step.quiet header_opened;
             image = opened.image;
             slab = opened.slab.more.slab;
             log = book;
@@ -89,7 +92,7 @@ module _ (device : PmemState) (volatile : Volatile) (start class : ℕ) (may : M
           keeps = keeps_blocks words start new image.formed image.exact.sound image.exact.closed
               (λ root range k named word. ⊎_elim (λ x. inl x) (λ x. inr (omega (arith, x))) (block_word-vacant image.exact.sound image.exact.closed root range named k word start (may.row.vacant start (omega arith) (omega arith))))
               opened.rest;
-          bounds = opened.bounds;
+          header = header_opened;
           line = refl;
           room = omega (arith, ap length fresh, few, step.appends.room, slab_room ready);
         }

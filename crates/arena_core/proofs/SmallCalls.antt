@@ -44,7 +44,7 @@ module _ {words : List ℕ} {line root start place : ℕ} (change : IsBlockChang
   keeps_low : (k : ℕ) → k < 64 → word_at new k ≡ word_at words k
   keeps_low k low = rest.others k (λ e. omega (arith, e, low)) (λ e. omega (arith, e, low, change.low, start_low)) (λ e. omega (arith, e, low))
 
-  log_small : SameLog words new
+  pub log_small : SameLog words new
   log_small =
       let version = version_in words in
       let sizes = sizes_of words change.image.formed in
@@ -70,8 +70,8 @@ module _ {words : List ℕ} {line root start place : ℕ} (change : IsBlockChang
   }
 
   -- the root has this block now, or none
-  pub gives_small : {block : Option Range} (bits lives : Bool → ℕ → ℕ → Bool) (on : Bool) (word : ℕ) → bounds_of new ≡ bounds_of words → tables_of new ≡ stage_of (tables_of words) bits lives root on word None → GivesOne words root block new → GivesRoot words root block (slabs (tables_of words)) new
-  gives_small bits lives on word bounds tables gives = record { here = gives.here; others = gives.others; slabs = λ s. ap (λ (x : Tables). slabs x s) tables; keeps = keeps_small; bounds = bounds }
+  pub gives_small : {block : Option Range} (bits lives : Bool → ℕ → ℕ → Bool) (on : Bool) (word : ℕ) → tables_of new ≡ stage_of (tables_of words) bits lives root on word None → GivesOne words root block new → GivesRoot words root block (slabs (tables_of words)) new
+  gives_small bits lives on word tables gives = record { here = gives.here; others = gives.others; slabs = λ s. ap (λ (x : Tables). slabs x s) tables; keeps = keeps_small; header = log_small.fields }
 
 -- where it is the entry of an old block in the index table
 pub change_index : {words : List ℕ} {line root : ℕ} {block : OldBlock} → IsOldDetachable words root block → line < 8 → IsBlockChange words line root block.start (index_word block.start block.place)

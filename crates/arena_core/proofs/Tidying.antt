@@ -1,12 +1,12 @@
 -- Whether a slab keeps a block once one of its blocks goes: it is dropped where it holds none, and its transition ends where
 -- no old one is left.
 use Rattle.std.proofs.Common.{◌<◌, true≢false, ◌⊎◌, ◌≤◌, ◌+◌, ◌≡◌, ◌≢◌, ◌||◌, ℕ, true, false, refl, sym, ap, subst, ◌∙◌, inl, inr, ⊎_elim, Bool, arith, ◌*◌, ◌/◌, ◌↔◌, ◌==◌, not, IsTrue, List, [], slice_index, Some, None, if◌then◌else◌}
-use Rattle.arena_core.proofs.Common.{is_unfit, Book, FreeSet, IsFree, Supply, HasSlabLess, IsEitherHeap, IsBookOf, sizes_of, IsUnusedIn-same, live_below, cases_Bool, class_capacity, Tables, Bounds, Range, slab_block, any_below, entry_at, Holds, HoldsBit, HoldsOld, IsInSlab, IsEmptySlab, IsExactBut, plain_size, IsNamed-claim, IsClaim-word, Holds-claim, none_morphing_but, IsInSlab-held, IsLastOf, holds_none, cond-true, cond-false, eqb-true, and_from, and_parts, false_from_ne_true, PmemState, words_of, IsQuietStep, step_by, step_none, step_wider, morphed_kind, is_slab, tables_of, with_key, slabs, heap, IsDoneSlab, bounds_of, IsExactImage, IsSteadyImage, IsSteady-but, Volatile, Lives, normal_at, AreCountsOf, normal_of, IsTidied, slabs_but, tidy_events, HasNoMove-closed, granule_word, block_word-header, slabs-other, IsSlabPlace, keeps_blocks, same_heap, live_none, live_same, counts_kept, with_key-is, normal_of-none, normal_of-same}
+use Rattle.arena_core.proofs.Common.{word_at, fields_word, is_unfit, Book, FreeSet, IsFree, Supply, HasSlabLess, IsEitherHeap, IsBookOf, sizes_of, IsUnusedIn-same, live_below, cases_Bool, class_capacity, Tables, Bounds, Range, slab_block, any_below, entry_at, Holds, HoldsBit, HoldsOld, IsInSlab, IsEmptySlab, IsExactBut, plain_size, IsNamed-claim, IsClaim-word, Holds-claim, none_morphing_but, IsInSlab-held, IsLastOf, holds_none, cond-true, cond-false, eqb-true, and_from, and_parts, false_from_ne_true, PmemState, words_of, IsQuietStep, step_by, step_none, step_wider, morphed_kind, is_slab, tables_of, with_key, slabs, heap, IsDoneSlab, bounds_of, IsExactImage, IsSteadyImage, IsSteady-but, Volatile, Lives, normal_at, AreCountsOf, normal_of, IsTidied, slabs_but, tidy_events, HasNoMove-closed, granule_word, block_word-header, slabs-other, IsSlabPlace, keeps_blocks, same_heap, live_none, live_same, counts_kept, with_key-is, normal_of-none, normal_of-same}
 use Rattle.std.proofs.lemmas.Bool.{cases_eq, or_parts, or_cases, true_from_ne_false}
 use Rattle.image_tables.specs.Forms.{morphing_kind}
 use Rattle.heap_model.proofs.Below.{any_below-each, any_below-some}
 use Rattle.arena_core.proofs.Tests.{not_true, not_false}
-use Rattle.arena_core.proofs.Readiness.{ready_after}
+use Rattle.arena_core.proofs.Readiness.{ready_after, fields_kept}
 use Rattle.heap_check.proofs.SameSlabs.{IsSameSlab-back}
 use Rattle.heap_check.proofs.SlabHeaps.{slabs-none, IsVacant-no_slab}
 use Rattle.heap_check.proofs.SlabPlaces.{IsSlabPlace-empty}
@@ -16,7 +16,7 @@ use Rattle.arena_core.specs.Carried.{IsUntidy}
 use Rattle.arena_core.specs.Events.{is_done}
 use Rattle.arena_core.proofs.AdoptedSlabs.{class_read}
 use Rattle.arena_core.proofs.Arenas.{index_by, index_more}
-use Rattle.arena_core.proofs.ChangedHeaders.{IsHeaderChange, row, header_now, header_other, book_header, index_header, unused_header}
+use Rattle.arena_core.proofs.ChangedHeaders.{IsHeaderChange, row, header_now, header_other, log_header, book_header, index_header, unused_header}
 use Rattle.arena_core.proofs.LiveSlabs.{lives_put}
 use Rattle.arena_core.proofs.SlabChanges.{exact_held}
 use Rattle.arena_core.proofs.SmallCalls.{of_each, blocks_kept}
@@ -137,7 +137,7 @@ module _ (s : PmemState) (volatile : Volatile) (start : ℕ) (untidy : IsUntidy 
         current = record { ready = untidy.ready; exact = exact; log = untidy.log; index = untidy.index };
         slabs = untidy.slabs;
         lives = untidy.lives;
-        bounds = refl;
+        header = refl;
         heap = record { each = λ root. refl };
         slab = λ o. sym (ap (λ gone. slabs_but (slabs t) start gone o) none);
         keeps = record { each = λ root other range k first second word. refl };
@@ -158,6 +158,9 @@ module _ (s : PmemState) (volatile : Volatile) (start : ℕ) (untidy : IsUntidy 
     drop_place : IsSlabPlace (bounds_of words) less t start
     drop_place = IsSlabPlace-empty untidy.image.but.sound untidy.image.but.closed (omega (arith, (sizes_of words untidy.image.formed).first)) dropped.slab (droppable zero).empty
 
+    header_dropped : word_at (words_of u) fields_word ≡ word_at (words_of s) fields_word
+    header_dropped = fields_kept dropped.rest (omega (arith, drop_place.first, drop_place.low))
+
     classes_dropped : (o : ℕ) → slabs less o ≡ with_key (slabs t) start None o
     classes_dropped = with_key-is (slabs t) (slabs less) start None (slabs-none drop_place) (λ o differ. sym (slabs-other drop_place o differ))
 
@@ -176,7 +179,7 @@ module _ (s : PmemState) (volatile : Volatile) (start : ℕ) (untidy : IsUntidy 
         record {
           step = step_by (drop_events words start) (tidy_events words start) (sym events) step;
           current = record {
-            ready = ready_after untidy.ready step.appends.room step.quiet untidy.image.formed exact.formed dropped.bounds;
+            ready = ready_after untidy.ready step.appends.room step.quiet header_dropped;
             exact = exact;
             log = book;
             index = index_by words fewer more (granules ∙ untidy.index.granules) dropped.bounds (index_more volatile.free more (bounds_of words) t less start 4 untidy.index.each given (IsVacant-no_slab drop_place));
@@ -192,7 +195,7 @@ module _ (s : PmemState) (volatile : Volatile) (start : ℕ) (untidy : IsUntidy 
           lives = lives_put words fewer volatile.lives next (subst (λ (n : List ℕ). AreCountsOf n fewer) (sym same) counts) untidy.lives start None put
               (with_key-is (normal_of t) (normal_of less) start None (normal_of-none less start dropped.slab.none) (λ o differ. sym (normal_of-same less t o (dropped.slab.others o differ))))
               unfit (λ o c number differ. (IsUnusedIn-same (IsSameSlab-back (dropped.slab.others o differ)) c number).1);
-          bounds = dropped.bounds;
+          header = header_dropped;
           heap = dropped.heap;
           slab = λ o. classes_dropped o ∙ sym (ap (λ gone. slabs_but (slabs t) start gone o) none);
           keeps = keeps_blocks words start fewer untidy.image.formed untidy.image.but.sound untidy.image.but.closed (λ root range k named word. block_word-header untidy.image.but.sound untidy.image.but.closed root range named k word start dropped.slab.slab) dropped.rest;
@@ -262,14 +265,14 @@ module _ (s : PmemState) (volatile : Volatile) (start : ℕ) (untidy : IsUntidy 
         record { steady = kept.steady; bounds = kept.bounds; heap = inl kept.heap; words = kept.blocks; still = HasNoMove-closed (left.entry ∙ untidy.image.but.closed) } in
         record {
           step = step_by (end_events words start) (tidy_events words start) (sym events) (step_wider leaves step);
-          current = record { ready = ready_after untidy.ready step.appends.room step.quiet untidy.image.formed exact.formed ended.bounds; exact = exact; log = book_header change volatile.log untidy.log; index = index_header change volatile.free untidy.index };
+          current = record { ready = ready_after untidy.ready step.appends.room step.quiet (log_header change).fields; exact = exact; log = book_header change volatile.log untidy.log; index = index_header change volatile.free untidy.index };
           slabs = record {
             granules = untidy.slabs.granules ∙ ap (λ (b : Bounds). b.granules) (sym ended.bounds);
             classes = λ o. untidy.slabs.classes o ∙ sym (classes_ended o);
             blocks = λ o i. blocks_kept (slab_same o) (class_same o) (unused_header change o (t.header o).class i) (λ is. is, λ is. is) (untidy.slabs.blocks o i);
           };
           lives = lives_put words new volatile.lives next (subst (λ (n : List ℕ). AreCountsOf n new) (sym same) counts) untidy.lives start (Some (t.header start).class) (λ o. put o ∙ ap (λ c. with_key (normal_at volatile.lives) start (Some c) o) class_is) normal_ended unfit (λ o c number differ. (unused_header change o c number).1);
-          bounds = ended.bounds;
+          header = (log_header change).fields;
           heap = ended.heap;
           slab = λ o. classes_ended o ∙ sym (ap (λ gone. slabs_but (slabs t) start gone o) none);
           keeps = ended.blocks;

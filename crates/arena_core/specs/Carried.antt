@@ -1,11 +1,13 @@
 -- What a call has done once it is carried out.
 use Rattle.std.specs.Prelude.{◌≡◌, ◌≢◌, ◌==◌, ◌+◌, ◌%◌, ◌<◌, ◌≤◌, ℕ, if◌then◌else◌, List, length, slice_index, Option, Some, None, true}
+use Rattle.pmem_lines.specs.Words.{word_at}
 use Rattle.pmem_lines.specs.declared.event.Event.{Event}
 use Rattle.pmem_lines.specs.Pmem.{PmemState, words_of, HasRoom}
 use Rattle.pmem_lines.specs.Steps.{IsQuietStep}
 use Rattle.image_tables.specs.Tables.{tables_of}
 use Rattle.heap_model.specs.declared.call.Call.{Call}
 use Rattle.heap_model.specs.declared.call.Reply.{Reply}
+use Rattle.pool_layout.specs.Places.{fields_word}
 use Rattle.pool_layout.specs.Header.{granules_in}
 use Rattle.heap_model.specs.Machine.{Range, with_key}
 use Rattle.slab_index.specs.SlabSet.{class_in}
@@ -101,7 +103,7 @@ pub record HasClassNow (old new : PmemState) (was left : Volatile) (start class 
   pub heap : HaveSameHeap (words_of old) (words_of new)
   pub roots : (root : ℕ) → (tables_of (words_of new)).root root ≡ (tables_of (words_of old)).root root
   pub keeps : KeepsBlocks (words_of old) (words_of new)
-  pub bounds : bounds_of (words_of new) ≡ bounds_of (words_of old)
+  pub header : word_at (words_of new) fields_word ≡ word_at (words_of old) fields_word
   pub line : left.line ≡ was.line
   pub room : HasRoom new 11
 
@@ -121,7 +123,7 @@ pub record IsTidied (old new : PmemState) (left : Volatile) (start : ℕ) : Type
   pub current : IsCurrent new left
   pub slabs : IsSlabsOf left.supply (words_of new)
   pub lives : AreLivesOf left.lives (words_of new)
-  pub bounds : bounds_of (words_of new) ≡ bounds_of (words_of old)
+  pub header : word_at (words_of new) fields_word ≡ word_at (words_of old) fields_word
   pub heap : HaveSameHeap (words_of old) (words_of new)
   pub slab : (other : ℕ) → Heap.slabs (tables_of (words_of new)) other ≡ slabs_but (Heap.slabs (tables_of (words_of old))) start (holds_none (tables_of (words_of old)) start) other
   pub keeps : KeepsBlocks (words_of old) (words_of new)

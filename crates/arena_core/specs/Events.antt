@@ -119,10 +119,14 @@ freed_events words line root at size =
     (if is_old (t.header (start_at t at)) (start_at t at) at then unold_events words line root at (start_at t at) else unsmall_events words line root (block_at (start_at t at) at size))
     else take_events words root (at / 16384)
 
--- words are written into a root's block from an index on: a row of events, and none where there are no words
+-- words are written one after another from an address on: a row of events, and none where there are no words
+abbrev pub words_events : ℕ → List ℕ → List Event
+words_events at [] = []
+words_events at (word ∷ words) = row_events at (word ∷ words)
+
+-- they are written into a root's block from an index on
 abbrev pub write_events : Tables → ℕ → ℕ → List ℕ → List Event
-write_events t root index [] = []
-write_events t root index (word ∷ words) = row_events (t.root root + 8 * index) (word ∷ words)
+write_events t root index words = words_events (t.root root + 8 * index) words
 
 -- The events of a call with this reply, of which the entry goes to a write-ahead line. A refusal and a read have none.
 abbrev pub call_events : List ℕ → ℕ → Call → Reply → List Event

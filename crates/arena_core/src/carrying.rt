@@ -123,7 +123,7 @@ impl Volatile {
     }
 
     // Takes granules from a root: the root's word becomes 0, and then a Tomb for their extent goes into the log.
-    #[tactic(auto, using(crate::proofs::Readiness::room_rules, crate::proofs::LargeCalls::taken_root, crate::proofs::LargeCalls::taken_covers, heap_check::proofs::Sizes::version_by_bounds))]
+    #[tactic(auto, using(crate::proofs::Readiness::room_rules, crate::proofs::LargeCalls::taken_root, crate::proofs::LargeCalls::taken_covers, crate::proofs::Readiness::root_rules))]
     fn take_large<P: Pmem>(&mut self, device: &mut P, root: u32, start: u32, granules: u32)
         requires arena { IsArena (P.state device.old) self.old }
         requires fresh { (P.state device.old).events ≡ [] }

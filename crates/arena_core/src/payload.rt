@@ -3,11 +3,10 @@ ghost use Rattle.std.specs.Prelude.{◌≡◌, ◌+◌, ◌*◌, ◌%◌, ◌^�
 ghost use Rattle.pmem_lines.specs.Pmem.{words_of};
 ghost use Rattle.pmem_lines.specs.Steps.{IsQuietStep};
 ghost use Rattle.durable_steps.specs.Rows.{IsOldOrNewRow};
-ghost use Rattle.image_tables.specs.Tables.{Tables};
 ghost use Rattle.heap_check.specs.Image.{IsExactImage};
 ghost use Rattle.arena_core.specs.Arena.{IsArena};
 ghost use Rattle.arena_core.specs.Call.{IsReady};
-ghost use Rattle.arena_core.specs.Events.{write_events};
+ghost use Rattle.arena_core.specs.Events.{words_events};
 ghost use Rattle.arena_core.specs.Payload.{IsBlockPlan, IsWritePlan, IsWriteCarried};
 
 use crate::BlockRefusal;
@@ -84,9 +83,13 @@ pub(crate) fn carry_out_write<P: Pmem>(
     }
 }
 
-// Writes words in a row from an address on: nothing where there are none.
+/// Writes words one after another from byte `at` on and makes them durable, under one fence: an event for each word, one for each
+/// line that they touch, and the fence; no words make no event. They begin at a multiple of 8, are 512 at most, and end within the
+/// memory, which is of whole lines, and below 2^32 bytes. A call has begun in the memory and has no event yet, and the memory has
+/// room for those of a call. After a crash within the write each of the words is old or new, and every other word of the memory is
+/// as before. It never refuses, and takes no memory.
 #[tactic(auto, using(crate::proofs::Readiness::room_rules))]
-fn write_words<P: Pmem>(device: &mut P, at: u32, words: &[u64])
+pub fn write_words<P: Pmem>(device: &mut P, at: u32, words: &[u64])
     requires ready { IsReady (P.state device.old) }
     requires fresh { (P.state device.old).events ≡ [] }
     requires few { length words.now ≤ 512 }
@@ -94,7 +97,7 @@ fn write_words<P: Pmem>(device: &mut P, at: u32, words: &[u64])
     requires inside { at + 8 * length words.now ≤ 8 * length (words_of (P.state device.old)) }
     requires fits { at + 8 * length words.now < 2 ^ 32 }
     requires lines { length (words_of (P.state device.old)) % 8 ≡ 0 }
-    ensures { (t : Tables) (root from : ℕ) → at ≡ t.root root + 8 * from → IsQuietStep (P.state device.old) (P.state device.new) (write_events t root from words.now) (IsOldOrNewRow (words_of (P.state device.old)) at words.now) }
+    ensures step { IsQuietStep (P.state device.old) (P.state device.new) (words_events at words.now) (IsOldOrNewRow (words_of (P.state device.old)) at words.now) }
 {
     if !words.is_empty() {
         write_row(device, at, words);

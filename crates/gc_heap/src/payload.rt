@@ -1,17 +1,12 @@
 // Writing the words of a root's block.
-ghost use Rattle.std.specs.Prelude.{◌≡◌, ◌+◌, ◌*◌, ◌%◌, ◌^◌, ◌<◌, ◌≤◌, ℕ, List, [], length};
+ghost use Rattle.std.specs.Prelude.{◌≡◌, ◌≤◌, ℕ, List, [], length};
 ghost use Rattle.pmem_lines.specs.Pmem.{words_of};
-ghost use Rattle.pmem_lines.specs.Steps.{IsQuietStep};
-ghost use Rattle.durable_steps.specs.Rows.{IsOldOrNewRow};
-ghost use Rattle.image_tables.specs.Tables.{Tables};
 ghost use Rattle.arena_core.specs.Call.{IsReady};
-ghost use Rattle.arena_core.specs.Events.{write_events};
 ghost use Rattle.gc_check.specs.Image.{IsGcExactImage};
 ghost use Rattle.gc_heap.specs.Plan.{IsGcBlockPlan};
 ghost use Rattle.gc_heap.specs.Writing.{IsGcWritePlan, IsGcWriteCarried};
 
-use arena_core::BlockRefusal;
-use durable_steps::write_row;
+use arena_core::{BlockRefusal, write_words};
 use heap_model::Block;
 use pmem_lines::Pmem;
 
@@ -55,22 +50,5 @@ pub(crate) fn carry_out_write<P: Pmem>(
             Ok(())
         }
         Err(refusal) => Err(refusal),
-    }
-}
-
-// Writes words in a row from an address on: nothing where there are none.
-#[tactic(auto, using(std::proofs::lemmas::Grind::common_steps, arena_core::proofs::Readiness::room_rules))]
-fn write_words<P: Pmem>(device: &mut P, at: u32, words: &[u64])
-    requires ready { IsReady (P.state device.old) }
-    requires fresh { (P.state device.old).events ≡ [] }
-    requires few { length words.now ≤ 512 }
-    requires aligned { at % 8 ≡ 0 }
-    requires inside { at + 8 * length words.now ≤ 8 * length (words_of (P.state device.old)) }
-    requires fits { at + 8 * length words.now < 2 ^ 32 }
-    requires lines { length (words_of (P.state device.old)) % 8 ≡ 0 }
-    ensures { (t : Tables) (root from : ℕ) → at ≡ t.root root + 8 * from → IsQuietStep (P.state device.old) (P.state device.new) (write_events t root from words.now) (IsOldOrNewRow (words_of (P.state device.old)) at words.now) }
-{
-    if !words.is_empty() {
-        write_row(device, at, words);
     }
 }

@@ -1,7 +1,7 @@
 -- The numbers of an arena of well-formed words, and where its words lie.
-use Rattle.std.proofs.Common.{◌≡◌, ◌+◌, ◌*◌, ◌^◌, ◌<◌, ◌≤◌, ℕ, List, length, ap, arith}
-use Rattle.heap_check.proofs.Common.{layout_of, root_word, heap_word, version_in, granules_in, Bounds}
-use Rattle.pool_layout.proofs.Layouts.{layout_rules, version_by_roots}
+use Rattle.std.proofs.Common.{◌≡◌, ◌+◌, ◌*◌, ◌^◌, ◌<◌, ◌≤◌, ℕ, List, length, arith}
+use Rattle.heap_check.proofs.Common.{layout_of, root_word, heap_word, version_in, granules_in}
+use Rattle.pool_layout.proofs.Layouts.{layout_rules}
 use Rattle.heap_check.specs.Image.{bounds_of, IsFormed}
 
 -- how many roots and granules there are, where the heap begins, and how many words
@@ -24,11 +24,6 @@ sizes_of words formed =
       most = omega (arith, rules.most, valid.greatest);
       size = formed.size;
     }
-
--- well-formed words with the same numbers have one version
-pub version_by_bounds : (words new : List ℕ) → IsFormed words → IsFormed new → bounds_of new ≡ bounds_of words → version_in new ≡ version_in words
-version_by_bounds words new formed formed_new same =
-    version_by_roots (version_in new) (version_in words) formed_new.header.valid.version formed.header.valid.version (ap (λ (b : Bounds). b.roots) same)
 
 -- the heap begins inside
 pub heap_inside : (words : List ℕ) → IsFormed words → heap_word (version_in words) ≤ length words

@@ -1,5 +1,5 @@
 -- What every row of the table of versions keeps.
-use Rattle.std.proofs.Common.{◌≡◌, ◌⊎◌, ⊎_elim, ◌+◌, ◌*◌, ◌/◌, ◌<◌, ◌≤◌, ℕ, true, false, Bool, cond, eqb, refl, inl, inr, sym, ◌∙◌, ap, arith, rules}
+use Rattle.std.proofs.Common.{◌≡◌, ◌⊎◌, ⊎_elim, ◌+◌, ◌*◌, ◌/◌, ◌<◌, ◌≤◌, ℕ, true, false, Bool, cond, eqb, refl, inl, inr, ap, arith, rules}
 use Rattle.std.proofs.lemmas.Bool.{cases_lt}
 use Rattle.pool_layout.specs.declared.layout.Layout.{Layout}
 use Rattle.pool_layout.specs.Layout.{first_layout, second_layout, layout_of, IsVersion, IsLayout}
@@ -30,19 +30,6 @@ first_version = record { some = omega arith; most = omega arith }
 
 pub second_version : IsVersion 2
 second_version = record { some = omega arith; most = omega arith }
-
--- versions that have as many roots are one
-pub version_by_roots : (version other : ℕ) → IsVersion version → IsVersion other → (layout_of version).roots ≡ (layout_of other).roots → version ≡ other
-version_by_roots version other is is_other same = by (version_cases version is) (version_cases other is_other)
-  where
-    differ : (layout_of 1).roots ≡ (layout_of 2).roots → ⊥
-    differ equal = omega (arith, equal, ap (λ (row : Layout). row.roots) first_row, ap (λ (row : Layout). row.roots) second_row)
-
-    by : (version ≡ 1) ⊎ (version ≡ 2) → (other ≡ 1) ⊎ (other ≡ 2) → version ≡ other
-    by (inl one) (inl another) = one ∙ sym another
-    by (inl one) (inr two) = absurd (differ (ap (λ v. (layout_of v).roots) (sym one) ∙ same ∙ ap (λ v. (layout_of v).roots) two))
-    by (inr two) (inl one) = absurd (differ (ap (λ v. (layout_of v).roots) (sym one) ∙ sym same ∙ ap (λ v. (layout_of v).roots) two))
-    by (inr two) (inr another) = two ∙ sym another
 
 -- the first byte of a chunk, of any row
 pub chunk_byte : (layout : Layout) (chunk : ℕ) → IsLayout layout → layout.log_at + layout.chunk_bytes * chunk ≡ 8 * (layout.log_at / 8 + layout.chunk_bytes / 8 * chunk)
