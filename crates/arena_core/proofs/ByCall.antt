@@ -46,7 +46,7 @@ is_write b m root index word reply next (inr (rooted, inl (held, rest))) = inr (
 pub law_of_one_word : LawOfOneWord
 law_of_one_word old new line root index word reply step =
     let bare = step.each (bare_state old) (HasState-bare old) in
-    (λ seat stacks. record { bounds = step.bounds; each = λ m state. let made = step.each m state in (made.0, record { step = is_write (bounds_of old) m root index word reply made.0 made.1; stacked = refl }, made.2) }, grind arith, grind arith)
+    (λ seat stacks. record { header = step.header; each = λ m state. let made = step.each m state in (made.0, record { step = is_write (bounds_of old) m root index word reply made.0 made.1; stacked = refl }, made.2) }, grind arith, grind arith)
 
 -- one read
 
@@ -60,7 +60,7 @@ ReadsAs words line root index reply = IsStepOfAny words words (calls.Read root i
 
 -- the step, where the machine reads
 read_step : (words : List ℕ) (root index : ℕ) (reply : Reply) → ((m : Machine) → HasState words m → IsRead (bounds_of words) m root index reply m) → IsStepOfAny words words (calls.Read root index) reply
-read_step words root index reply reads seat stacks = record { bounds = refl; each = λ m state. (m, record { step = reads m state; stacked = refl }, state) }
+read_step words root index reply reads seat stacks = record { header = refl; each = λ m state. (m, record { step = reads m state; stacked = refl }, state) }
 
 -- a view of a block
 module _ (words : List ℕ) (line root index : ℕ) (view : List ℕ) (are : AreWordsOf words root view) where

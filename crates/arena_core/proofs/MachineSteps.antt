@@ -1,6 +1,6 @@
 -- What a call means to the heap machine: the step from the state that the old words have to one that the new words have.
 use Rattle.std.proofs.Common.{◌≡◌, ◌≢◌, ◌*◌, ◌<◌, ℕ, Bool, List, Option, Some, None, Err, refl, sym, ap, ◌∙◌, arith, inl, inr, ⊎_elim}
-use Rattle.arena_core.proofs.Common.{bounds_of-same, Tables, tables_of, Call, Reply, Range, Machine, with_key, view_of, Site, IsSite, range_of, slabs_with, slabs_without, forgotten, class_size, class_capacity, slab_block, class_small, stacks_of, Supply, supply_view, TookBlock, HasNoOpen, IsSlabsOf, heap, slabs, IsInSlab, bounds_of, IsExactImage, HasState, is_large-start, malloc_reply, free_reply, IsStepOf, IsStepOfAny, slabs_but, stacks_but, IsLastOf, GivesRoot, IsAskedOf, tables_view, IsTakable, IsFreePlan, Granules, InSlab, InMorph, InNewSlab, IsClassOf, Stacks, without_left, IsReturned, AgreeOnBlocks, law_of_exact_state, MallocRefusal, NoSpace, FreeRefusal, iff_then, named_at, block_view}
+use Rattle.arena_core.proofs.Common.{Tables, tables_of, Call, Reply, Range, Machine, with_key, view_of, Site, IsSite, range_of, slabs_with, slabs_without, forgotten, class_size, class_capacity, slab_block, class_small, stacks_of, Supply, supply_view, TookBlock, HasNoOpen, IsSlabsOf, heap, slabs, IsInSlab, bounds_of, IsExactImage, HasState, is_large-start, malloc_reply, free_reply, IsStepOf, IsStepOfAny, slabs_but, stacks_but, IsLastOf, GivesRoot, IsAskedOf, tables_view, IsTakable, IsFreePlan, Granules, InSlab, InMorph, InNewSlab, IsClassOf, Stacks, without_left, IsReturned, AgreeOnBlocks, law_of_exact_state, MallocRefusal, NoSpace, FreeRefusal, iff_then, named_at, block_view}
 use Rattle.heap_model.specs.declared.call.Call.TheVariants as calls
 use Rattle.heap_model.specs.declared.call.Reply.TheVariants as replies
 use Rattle.heap_model.specs.Step.{with_block, without_block, IsStep}
@@ -37,7 +37,7 @@ IsServedAt t was next seat (InNewSlab start class number) = HasNoOpen was class 
 pub placed_step : (old new : List ℕ) (was next : Supply) (seat root size : ℕ) (site : Site) → IsExactImage old → IsSlabsOf was old → IsAskedOf (bounds_of old) (tables_of old) root size → IsSite (tables_view (bounds_of old) (tables_of old)) size site →
     IsServedAt (tables_of old) was next seat site → GivesRoot old root (Some (range_of site)) (slabs_with (slabs (tables_of old)) site) new → IsStepOf seat old (stacks_of was.stacks) new (stacks_of next.stacks) (calls.Malloc root size) (placed_reply (range_of site))
 placed_step old new was next seat root size site image supply asked chosen served gives = record {
-  bounds = bounds_of-same old new gives.header;
+  header = gives.header;
   each = λ m state.
       let fits = IsSite-same (tables_view (bounds_of old) (tables_of old)) (view_of (bounds_of old) m) (tables_agree image state) size site chosen in (
         with_block m root site,
@@ -63,7 +63,7 @@ placed_step old new was next seat root size site image supply asked chosen serve
 
 -- a refusal is a step that changes nothing
 refused_step : (words : List ℕ) (call : Call) (reply : Reply) → ((seat : ℕ) (m : Machine) (stacks : Stacks) → HasState words m → IsStacked (bounds_of words) seat (record { machine = m; stacks = stacks }) call reply (record { machine = m; stacks = stacks })) → ((m : Machine) → HasState words m → IsStep (bounds_of words) m call reply m) → IsStepOfAny words words call reply
-refused_step words call reply none step seat stacks = record { bounds = refl; each = λ m state. (m, record { step = step m state; stacked = none seat m stacks state }, state) }
+refused_step words call reply none step seat stacks = record { header = refl; each = λ m state. (m, record { step = step m state; stacked = none seat m stacks state }, state) }
 
 -- a malloc is refused
 pub refused_malloc : (words : List ℕ) (root size : ℕ) (refusal : MallocRefusal) → IsExactImage words → IsMallocPlan (bounds_of words) (tables_of words) root size (Err refusal) →
@@ -91,7 +91,7 @@ pub freed_step : (old new : List ℕ) (was after : Stacks) (seat root : ℕ) (ra
     ((m : Machine) → HasState old m → m.block root ≡ Some range → (s : ℕ) → slab s ≡ slabs_without (bounds_of old) m root range s) →
     Returns old was seat root range after → GivesRoot old root None slab new → IsStepOf seat old was new after (calls.Free root) (replies.Freed range.at range.size)
 freed_step old new was after seat root range slab below named same returned gives = record {
-  bounds = bounds_of-same old new gives.header;
+  header = gives.header;
   each = λ m state.
       let block = naming state root range named in (
         without_block (bounds_of old) m root range,

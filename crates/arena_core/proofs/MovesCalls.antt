@@ -120,16 +120,16 @@ module _ {words new : List ℕ} {line from to at : ℕ} (may : IsMovable words f
 pub step_moved : {words new : List ℕ} {line from to at : ℕ} (may : IsMovable words from to at) → line < 8 → IsMoved words line from to at new → (range : Range) → heap (tables_of words) from ≡ Some range →
     IsMoveStep words new from to (replies.Moved range.at range.size)
 step_moved {words} {new} {line} {from} {to} {at} may few moved range named = record {
-  bounds = moved.bounds;
+  header = (log_moved may few moved).fields;
   each = λ m state. (with_moved m from to range, move_is may few moved range named m state, state_moved may few moved range named m state);
 }
 
 -- a move is refused
 pub step_unmoved : {words : List ℕ} {from to : ℕ} (refusal : MoveRefusal) → IsExactImage words → IsMovePlan words from to (Err refusal) → IsMoveStep words words from to (move_reply (Err refusal))
-step_unmoved {words} {from} {to} NoRoot image past = record { bounds = refl; each = λ m state. (m, inl (past, (refl, refl)), state) }
-step_unmoved {words} {from} {to} Empty image plan = record { bounds = refl; each = λ m state. (m, let was = state.blocks from in grind arith, state) }
+step_unmoved {words} {from} {to} NoRoot image past = record { header = refl; each = λ m state. (m, inl (past, (refl, refl)), state) }
+step_unmoved {words} {from} {to} Empty image plan = record { header = refl; each = λ m state. (m, let was = state.blocks from in grind arith, state) }
 step_unmoved {words} {from} {to} (Occupied at) image plan = record {
-  bounds = refl;
+  header = refl;
   each = λ m state. (m, inr (in_arena plan.roots, inl (record { range = plan.range; named = sym (state.blocks from) ∙ plan.named }, inl (record { range = _; named = named_at image state to at plan.place plan.some }, (refl, refl)))), state);
 }
 

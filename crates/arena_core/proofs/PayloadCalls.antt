@@ -1,7 +1,7 @@
 -- Words that are written into a root's block: the step of the heap machine, the block of a root, and what a write did behind its
 -- begin.
 use Rattle.std.proofs.Common.{◌≡◌, ◌<◌, ◌≤◌, ◌+◌, ◌*◌, ◌/◌, ℕ, List, [], length, get_or, refl, ap, ◌∙◌, arith, Option, Err, sym, inl, ◌%◌, Ok, None}
-use Rattle.arena_core.proofs.Common.{Range, Machine, bounds_of, IsExactImage, HasState, BlockRefusal, IsWriteStep, HasWritten, HasBlockAt, IsWritable, IsWritePlan, PmemState, words_of, IsQuietStep, step_by, step_none, step_wider, tables_of, HasNoMove-closed, class_size, slab_block, root_table-past, heap, IsNamed-claim, heap-none, IsClaim-heap, sizes_of, IsWithin-claim, IsReady, payload_events, IsWriteCarried, IsHeldBy, range_held, law_of_exact_state, OutOfRange, block_refusal, Held, IsSameOffBlock, bounds_kept, exact_kept, slabs_kept}
+use Rattle.arena_core.proofs.Common.{word_at, fields_word, Range, Machine, bounds_of, IsExactImage, HasState, BlockRefusal, IsWriteStep, HasWritten, HasBlockAt, IsWritable, IsWritePlan, PmemState, words_of, IsQuietStep, step_by, step_none, step_wider, tables_of, HasNoMove-closed, class_size, slab_block, root_table-past, heap, IsNamed-claim, heap-none, IsClaim-heap, sizes_of, IsWithin-claim, IsReady, payload_events, IsWriteCarried, IsHeldBy, range_held, law_of_exact_state, OutOfRange, block_refusal, Held, IsSameOffBlock, bounds_kept, exact_kept, slabs_kept}
 use Rattle.durable_steps.specs.Rows.{IsOldOrNewRow}
 use Rattle.heap_model.specs.declared.call.Reply.TheVariants as replies
 use Rattle.arena_core.specs.declared.answer.BlockRefusal.TheVariants.{NoRoot, Empty}
@@ -28,18 +28,18 @@ state_written {old} {new} {root} {from} {words} {range} image block within writt
 -- steps
 
 -- the words are written
-pub step_written : {old new : List ℕ} {root from at : ℕ} {words : List ℕ} → IsExactImage old → IsWritable old root from (length words) at → bounds_of new ≡ bounds_of old → HasWritten old root from words new → IsWriteStep old new root from words replies.Wrote
-step_written {old} {new} {root} {from} {at} {words} image may bounds written = record {
-  bounds = bounds;
+pub step_written : {old new : List ℕ} {root from at : ℕ} {words : List ℕ} → IsExactImage old → IsWritable old root from (length words) at → word_at new fields_word ≡ word_at old fields_word → HasWritten old root from words new → IsWriteStep old new root from words replies.Wrote
+step_written {old} {new} {root} {from} {at} {words} image may header written = record {
+  header = header;
   each = λ m state. (with_values m root from words, wrote (bounds_of old) from words may.block.rooted (sym (state.blocks root) ∙ may.block.named) may.within, state_written image may.block may.within written m state);
 }
 
 -- nothing is written
 pub step_refused : (old : List ℕ) (root from : ℕ) (words : List ℕ) (refusal : BlockRefusal) → IsWritePlan old root from (length words) (Err refusal) → IsWriteStep old old root from words (block_refusal refusal)
-step_refused old root from words NoRoot past = record { bounds = refl; each = λ m state. (m, inl (past, (refl, refl)), state) }
-step_refused old root from words Empty plan = record { bounds = refl; each = λ m state. (m, grind arith, state) }
+step_refused old root from words NoRoot past = record { header = refl; each = λ m state. (m, inl (past, (refl, refl)), state) }
+step_refused old root from words Empty plan = record { header = refl; each = λ m state. (m, grind arith, state) }
 step_refused old root from words OutOfRange many = record {
-  bounds = refl;
+  header = refl;
   each = λ m state. (m, wrote_none (bounds_of old) from words many.block.rooted (sym (state.blocks root) ∙ many.block.named) many.past, state);
 }
 
@@ -123,12 +123,15 @@ module _ {old new : PmemState} {root from at : ℕ} {words : List ℕ} (image : 
         still = HasNoMove-closed exact.exact.closed;
       }
 
+  header : word_at (words_of new) fields_word ≡ word_at (words_of old) fields_word
+  header = (log image root may.block.named off_new).fields
+
   pub carried_words : IsReady old → IsWriteCarried old new root from words (Ok tt)
   carried_words ready = record {
     carried = step_by (words_events at words) (payload_events (words_of old) root from words (write_reply (Ok tt))) (ap (λ a. words_events a words) begins) (step_wider either step);
     written = written;
-    step = step_written image may (bounds_kept image root may.block.named off_new) written;
-    arena = λ volatile arena. IsArena-block root arena may.block.named off_new (ready_after ready step.appends.room step.quiet (log image root may.block.named off_new).fields);
+    step = step_written image may header written;
+    arena = λ volatile arena. IsArena-block root arena may.block.named off_new (ready_after ready step.appends.room step.quiet header);
   }
 
 -- a crash in which nothing is done

@@ -1,8 +1,10 @@
 -- What a call of an arena is: a step of the heap machine, and what a crash within it leaves.
 use Rattle.std.specs.Prelude.{◌≡◌, ◌⊎◌, ℕ, ◌≤◌, List}
+use Rattle.pmem_lines.specs.Words.{word_at}
 use Rattle.pmem_lines.specs.Events.{IsQuiet}
 use Rattle.pmem_lines.specs.Pmem.{PmemState, words_of}
 use Rattle.pool_layout.specs.Layout.{layout_of}
+use Rattle.pool_layout.specs.Places.{fields_word}
 use Rattle.pool_layout.specs.Header.{version_in, IsHeaderDefect}
 use Rattle.pool_layout.specs.declared.defect.Defect.TheVariants.{BadHeader}
 use Rattle.heap_model.specs.declared.call.Call.{Call}
@@ -18,9 +20,9 @@ pub record IsReady (device : PmemState) : Type 0 where
   pub room : (layout_of (version_in (words_of device))).room ≤ device.room
 
 -- each state that the old words have leads, with the stacks before it, to one that the new words have, with the stacks behind
--- it, by a step of the placement for a seat
+-- it, by a step of the placement for a seat; the fields of the header, and so the version and the numbers, are the same
 pub record IsStepOf (seat : ℕ) (old : List ℕ) (was : Stacks) (new : List ℕ) (after : Stacks) (call : Call) (reply : Reply) : Type 0 where
-  pub bounds : bounds_of new ≡ bounds_of old
+  pub header : word_at new fields_word ≡ word_at old fields_word
   pub each : (m : Machine) → HasState old m → (next : Machine) × IsPlacedStep (bounds_of old) seat (record { machine = m; stacks = was }) call reply (record { machine = next; stacks = after }) × HasState new next
 
 -- whichever seat calls, and whatever the stacks are, which stay

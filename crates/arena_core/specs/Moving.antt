@@ -1,8 +1,10 @@
 -- A block moves from a root to another: what that is as a step of the heap machine, what is decided before it, and what it
 -- did behind its begin.
 use Rattle.std.specs.Prelude.{◌≡◌, ◌≢◌, ◌⊎◌, ℕ, ◌<◌, ◌≤◌, List, Result, Ok, Err, Some, None}
+use Rattle.pmem_lines.specs.Words.{word_at}
 use Rattle.pmem_lines.specs.Pmem.{PmemState, words_of}
 use Rattle.pmem_lines.specs.Steps.{IsQuietStep}
+use Rattle.pool_layout.specs.Places.{fields_word}
 use Rattle.image_tables.specs.Tables.{tables_of}
 use Rattle.heap_model.specs.declared.call.Call.TheVariants as calls
 use Rattle.heap_model.specs.declared.call.Reply.{Reply}
@@ -21,9 +23,9 @@ use Rattle.arena_core.specs.Events.{call_events, line_after}
 
 -- the machine
 
--- each state that the old words have leads by such a move to one that the new words have
+-- each state that the old words have leads by such a move to one that the new words have, and the fields of the header are the same
 pub record IsMoveStep (old new : List ℕ) (from to : ℕ) (reply : Reply) : Type 0 where
-  pub bounds : bounds_of new ≡ bounds_of old
+  pub header : word_at new fields_word ≡ word_at old fields_word
   pub each : (m : Machine) → HasState old m → (next : Machine) × IsMove (bounds_of old) m from to reply next × HasState new next
 
 -- for the functions below

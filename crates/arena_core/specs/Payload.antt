@@ -6,6 +6,7 @@ use Rattle.pmem_lines.specs.Words.{word_at, words_at}
 use Rattle.pmem_lines.specs.declared.event.Event.{Event}
 use Rattle.pmem_lines.specs.Pmem.{PmemState, words_of}
 use Rattle.pmem_lines.specs.Steps.{IsQuietStep}
+use Rattle.pool_layout.specs.Places.{fields_word}
 use Rattle.image_tables.specs.Tables.{tables_of}
 use Rattle.image_tables.specs.Updates.{HasNoMove}
 use Rattle.heap_model.specs.declared.block.Block.{Block}
@@ -39,9 +40,9 @@ IsWriteOf b m root from words reply next =
     ((reply ≡ replies.Wrote) × (next ≡ with_values m root from words)))
     (IsRefused m replies.Empty reply next))
 
--- each state that the old words have leads by such a write to one that the new words have
+-- each state that the old words have leads by such a write to one that the new words have, and the fields of the header are the same
 pub record IsWriteStep (old new : List ℕ) (root from : ℕ) (words : List ℕ) (reply : Reply) : Type 0 where
-  pub bounds : bounds_of new ≡ bounds_of old
+  pub header : word_at new fields_word ≡ word_at old fields_word
   pub each : (m : Machine) → HasState old m → (next : Machine) × IsWriteOf (bounds_of old) m root from words reply next × HasState new next
 
 -- events

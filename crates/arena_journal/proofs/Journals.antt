@@ -14,6 +14,7 @@ use Rattle.heap_model.specs.Journal.{Leads, IsPlacedEntry}
 use Rattle.heap_check.specs.Image.{bounds_of, IsExactImage}
 use Rattle.heap_check.specs.State.{HasState}
 use Rattle.heap_check.proofs.ExactStates.{law_of_exact_state}
+use Rattle.heap_check.proofs.Forms.{bounds_of-same}
 use Rattle.arena_core.specs.Arena.{ArenaState}
 use Rattle.arena_core.specs.ByCall.{IsLeftBy}
 use Rattle.arena_core.specs.Call.{IsReady}
@@ -123,7 +124,7 @@ module _ (o : Opening) (journal : List Entry) (old new : ArenaState) (e : Entry)
     apart = law_of_exact_state (words_of new.device) found.0 answered.exact found.2;
     ready = answered.ready;
     exact = answered.exact;
-    bounds = answered.step.bounds ∙ held.bounds;
+    bounds = bounds_of-same (words_of old.device) (words_of new.device) answered.step.header ∙ held.bounds;
     line = answered.line ∙ (ap (λ line. line_after line e.reply) held.line ∙ sym (line_more o.next_line journal e));
     words = words;
     begins = begins;

@@ -1,6 +1,7 @@
 -- A root's block was freed: that of a pair which counted, or that of a stale root.
 use Rattle.std.proofs.Common.{◌≡◌, ◌≢◌, ℕ, ◌<◌, List, length, set, inl, inr, refl, sym, ap, ◌∙◌, subst, arith, ⊎_elim}
 use Rattle.attach_dict.proofs.Common.{words_of, tables_of, Bounds, heap, bounds_of, IsExactImage, HaveSameHeap, IsEitherHeap, KeyRoots, HasLess, ArenaState, rooted}
+use Rattle.heap_check.proofs.Forms.{bounds_of-same}
 use Rattle.image_defects.specs.Least.{HasNone as HasNoNumber, IsLeast}
 use Rattle.attach_dict.specs.declared.index.DictIndex.{DictIndex}
 use Rattle.attach_dict.specs.declared.progress.Progress.{Progress}
@@ -63,7 +64,7 @@ module _ (old new : ArenaState) (index after : DictIndex) (key : ℕ) (whole : I
   left = pairs_in is after.keys.rows
 
   bounds : bounds_of is ≡ bounds_of was
-  bounds = f.did.step.bounds
+  bounds = bounds_of-same (words_of old.device) (words_of new.device) f.did.step.header
 
   in_arena : root < (bounds_of was).roots
   in_arena = rooted was root f.range f.did.did.was_exact f.named
@@ -177,7 +178,7 @@ module _ (old new : ArenaState) (index after : DictIndex) (key : ℕ) (whole : I
 
   stale_cleared : AreStaleRoots are Idle after.stale
   stale_cleared = record {
-    below = fewer.below ∙ (whole.indexes.stale_roots.below ∙ ap (λ (b : Bounds). b.roots) (sym f.did.step.bounds));
+    below = fewer.below ∙ (whole.indexes.stale_roots.below ∙ ap (λ (b : Bounds). b.roots) (sym (bounds_of-same (words_of old.device) (words_of new.device) f.did.step.header)));
     are = λ other held. ⊎_elim
         (λ s. inl (stale_same (freed_keeps f) s))
         (λ s. absurd (fewer.out.none (subst (λ (r : ℕ). IsIn after.stale r) s.0 held)))
@@ -193,8 +194,8 @@ module _ (old new : ArenaState) (index after : DictIndex) (key : ℕ) (whole : I
 
   whole_at : IsWhole new cleared key stages.Idle
   whole_at = record {
-    kept = record { ready = f.did.did.ready; exact = f.did.did.exact; dict = dict_still old new index key stages.Idle whole (freed_keeps f) f.did.step.bounds f.did.did.exact; at_stage = tt };
-    indexes = record { tables = tables_still old new index key stages.Idle whole (freed_keeps f) f.did.step.bounds f.did.did.exact; stale_roots = stale_cleared; wide = whole.indexes.wide };
+    kept = record { ready = f.did.did.ready; exact = f.did.did.exact; dict = dict_still old new index key stages.Idle whole (freed_keeps f) (bounds_of-same (words_of old.device) (words_of new.device) f.did.step.header) f.did.did.exact; at_stage = tt };
+    indexes = record { tables = tables_still old new index key stages.Idle whole (freed_keeps f) (bounds_of-same (words_of old.device) (words_of new.device) f.did.step.header) f.did.did.exact; stale_roots = stale_cleared; wide = whole.indexes.wide };
   }
 
   pub whole_cleared : IsWhole new after key stages.Idle
@@ -202,7 +203,7 @@ module _ (old new : ArenaState) (index after : DictIndex) (key : ℕ) (whole : I
 
   pub cleared_map : KeepsMap (state_of old index key stages.Idle) (state_of new after key stages.Idle) Idle
   cleared_map = subst (λ (i : DictIndex). KeepsMap (state_of old index key stages.Idle) (state_of new i key stages.Idle) Idle) (sym same) (record {
-    pairs = map_still old new index key stages.Idle whole (freed_keeps f) f.did.step.bounds f.did.did.exact;
+    pairs = map_still old new index key stages.Idle whole (freed_keeps f) (bounds_of-same (words_of old.device) (words_of new.device) f.did.step.header) f.did.did.exact;
     phase_is = refl;
     numbers = λ n up. numbers_same (freed_keeps f) n up;
     crash = leaves_by old new (IsEitherHeap were are) (IsSteadyDict (pairs_in were index.keys.rows)) (λ image l. left_dict were are image (pairs_in were index.keys.rows) whole.kept.dict (freed_others f) l) f.did.did;
@@ -216,7 +217,7 @@ module _ (old new : ArenaState) (index after : DictIndex) (key : ℕ) (whole : I
 
   -- the map is that of the new image
   keys_dropped : IsStaleRoot (words_of old.device) root → after.keys ≡ index.keys → AreKeys (words_of new.device) after.keys
-  keys_dropped s is = subst (λ (k : KeyRoots). AreKeys (words_of new.device) k) (sym is) (keys_gone (freed_keeps f) (freed_none f) index.keys f.did.step.bounds s whole.indexes.tables.keys_are)
+  keys_dropped s is = subst (λ (k : KeyRoots). AreKeys (words_of new.device) k) (sym is) (keys_gone (freed_keeps f) (freed_none f) index.keys (bounds_of-same (words_of old.device) (words_of new.device) f.did.step.header) s whole.indexes.tables.keys_are)
 
   pub whole_dropped : IsWhole new after key stages.Idle
   whole_dropped = ⊎_elim
@@ -303,7 +304,7 @@ module _ (old : ArenaState) (index : DictIndex) (key : ℕ) (progress : Progress
 
     keys_after : AreKeys (words_of new.device) after.keys
     keys_after = subst (λ (k : KeyRoots). AreKeys (words_of new.device) k) (sym released.keys)
-        (keys_less (freed_keeps f) (freed_none f) (pairs_in (words_of old.device) index.keys.rows) whole.kept.dict gone value counted (λ r s. tidy r (inl s)) index.keys less f.did.step.bounds whole.indexes.tables.keys_are removed_key)
+        (keys_less (freed_keeps f) (freed_none f) (pairs_in (words_of old.device) index.keys.rows) whole.kept.dict gone value counted (λ r s. tidy r (inl s)) index.keys less (bounds_of-same (words_of old.device) (words_of new.device) f.did.step.header) whole.indexes.tables.keys_are removed_key)
 
     pub whole_less : IsWhole new after key progress
     whole_less = subst (λ (p : Progress). IsWhole new after key p) (sym remove_idle) (whole_removed old new index after key whole_was root counted.pair.low f released.numbers released.free keys_after gone value counted tidy released.stale released.block)

@@ -1,6 +1,7 @@
 -- The block at the stage comes to a free root: its pair is in the map, and the pair that its key had is stale.
 use Rattle.std.proofs.Common.{◌≡◌, ◌≢◌, ℕ, ◌+◌, ◌-◌, ◌^◌, ◌<◌, List, [], length, Option, Some, IsSome, inl, inr, refl, sym, ap, ◌∙◌, subst, arith, ⊎_elim}
 use Rattle.attach_dict.proofs.Common.{cases_eq, word_at, words_of, tables_of, Bounds, Range, heap, bounds_of, IsWordOf, HaveSameHeap, IsLeastOf, Keyed, IsKeyed, IsGreatestOf, ArenaState, IsPassed, passed, rooted}
+use Rattle.heap_check.proofs.Forms.{bounds_of-same}
 use Rattle.heap_model.specs.declared.call.Reply.TheVariants as replies
 use Rattle.move_steps.specs.Moves.{IsEitherMoved}
 use Rattle.attach_dict.specs.declared.index.DictIndex.{DictIndex}
@@ -95,7 +96,7 @@ module _ (old : ArenaState) (index : DictIndex) (key : ℕ) (whole : IsWhole old
       p = passed was is stage root s.range (replies.Moved s.range.at s.range.size) s.did.step s.did.did.was_exact s.named free.high free.none
 
       bounds : bounds_of is ≡ bounds_of was
-      bounds = (s.did.step 0 (λ seat class. [])).bounds
+      bounds = bounds_of-same (words_of old.device) (words_of new.device) (s.did.step 0 (λ seat class. [])).header
 
       -- any image whose heap is the new one, where the blocks that were there have their words
       module _ (image : List ℕ) (heap_is : (other : ℕ) → heap (tables_of image) other ≡ heap (tables_of is) other) (words : (other another : ℕ) (range : Range) (k : ℕ) → heap (tables_of was) other ≡ Some range → heap (tables_of image) another ≡ Some range → IsWordOf range k → word_at image k ≡ word_at was k) where

@@ -1,6 +1,7 @@
 -- A pair is made ready at the stage: its block is given, is written, and is freed again.
 use Rattle.std.proofs.Common.{◌≡◌, ◌≢◌, ℕ, suc, ◌+◌, ◌-◌, ◌/◌, ◌^◌, ◌<◌, ◌≤◌, List, ◌∷◌, length, get_or, Ok, Err, inl, inr, refl, sym, ap, ◌∙◌, subst, arith, ⊎_elim}
 use Rattle.attach_dict.proofs.Common.{word_at, IsGreatestOf, PmemState, words_of, tables_of, heap, IsEitherHeap, ArenaState, IsAnswered, IsWriteAnswered, HasWritten, IsEitherWords, KeepsOthers, root_place}
+use Rattle.heap_check.proofs.Forms.{bounds_of-same}
 use Rattle.heap_model.specs.declared.call.Call.TheVariants as calls
 use Rattle.heap_model.specs.declared.call.Reply.TheVariants as replies
 use Rattle.attach_dict.specs.declared.index.DictIndex.{DictIndex}
@@ -52,7 +53,7 @@ module _ (old new : ArenaState) (index : DictIndex) (key : ℕ) (whole : IsWhole
     still = subst (λ (words : List ℕ). AreNoneStale words Idle) (sym same) tidy
 
     pub whole_asked : IsWhole new index key stages.Idle
-    whole_asked = whole_still old new index key stages.Idle whole keeps e.step.bounds e.did.exact e.did.ready index whole.indexes.wide key stages.Idle tidy still tt
+    whole_asked = whole_still old new index key stages.Idle whole keeps (bounds_of-same (words_of old.device) (words_of new.device) e.step.header) e.did.exact e.did.ready index whole.indexes.wide key stages.Idle tidy still tt
 
     pub has_asked : HasAsked (state_of old index key stages.Idle) (state_of new index key stages.Idle) count replies.NoSpace Idle
     has_asked = record {
@@ -60,7 +61,7 @@ module _ (old new : ArenaState) (index : DictIndex) (key : ℕ) (whole : IsWhole
       numbers = room.number;
       did = e;
       tidy = still;
-      keeps = keeps_still old new index key stages.Idle whole keeps e.step.bounds e.did.exact e.did.ready index whole.indexes.wide key stages.Idle tidy still tt
+      keeps = keeps_still old new index key stages.Idle whole keeps (bounds_of-same (words_of old.device) (words_of new.device) e.step.header) e.did.exact e.did.ready index whole.indexes.wide key stages.Idle tidy still tt
           (leaves_by old new (IsEitherHeap (words_of old.device) (words_of new.device)) (IsSteadyDict (pairs_in (words_of old.device) index.keys.rows)) (λ image l. left_dict (words_of old.device) (words_of new.device) image (pairs_in (words_of old.device) index.keys.rows) whole.kept.dict others l) e.did);
     }
 
@@ -73,10 +74,10 @@ module _ (old new : ArenaState) (index : DictIndex) (key : ℕ) (whole : IsWhole
     staged_still root s = tidy root (inl (stale_same (keeps_back given_keeps) s))
 
     at_staged : IsAtStage (words_of new.device) (Staged next count)
-    at_staged = (taken_room t few, room_same given_keeps t.did.step.bounds room, staged_still)
+    at_staged = (taken_room t few, room_same given_keeps (bounds_of-same (words_of old.device) (words_of new.device) t.did.step.header) room, staged_still)
 
     pub whole_staged : IsWhole new index next (stages.Staged count)
-    whole_staged = whole_still old new index key stages.Idle whole given_keeps t.did.step.bounds t.did.did.exact t.did.did.ready index whole.indexes.wide next (stages.Staged count) tidy staged_still at_staged
+    whole_staged = whole_still old new index key stages.Idle whole given_keeps (bounds_of-same (words_of old.device) (words_of new.device) t.did.step.header) t.did.did.exact t.did.did.ready index whole.indexes.wide next (stages.Staged count) tidy staged_still at_staged
 
     pub has_staged : HasStaged (state_of old index key stages.Idle) (state_of new index next (stages.Staged count)) next count
     has_staged = record {
@@ -87,7 +88,7 @@ module _ (old new : ArenaState) (index : DictIndex) (key : ℕ) (whole : IsWhole
         numbers = room.number;
         did = t.did;
         tidy = staged_still;
-        keeps = keeps_still old new index key stages.Idle whole given_keeps t.did.step.bounds t.did.did.exact t.did.did.ready index whole.indexes.wide next (stages.Staged count) tidy staged_still at_staged
+        keeps = keeps_still old new index key stages.Idle whole given_keeps (bounds_of-same (words_of old.device) (words_of new.device) t.did.step.header) t.did.did.exact t.did.did.ready index whole.indexes.wide next (stages.Staged count) tidy staged_still at_staged
             (leaves_by old new (IsEitherHeap (words_of old.device) (words_of new.device)) (IsSteadyDict (pairs_in (words_of old.device) index.keys.rows)) (λ image l. left_dict (words_of old.device) (words_of new.device) image (pairs_in (words_of old.device) index.keys.rows) whole.kept.dict (taken_others t) l) t.did.did);
       };
     }
@@ -183,16 +184,16 @@ module _ (old new : ArenaState) (index after : DictIndex) (key : ℕ) (value : L
     at_filled : IsAtStage is (Filled key (value_in is stage))
     at_filled = (
       record { number = number; next = next_same kept_roots next; pair = subst (λ (v : List ℕ). HasPair is stage key number v) (sym value_read) pair_written },
-      room_same kept_roots e.step.bounds whole.kept.at_stage.1,
+      room_same kept_roots (bounds_of-same (words_of old.device) (words_of new.device) e.step.header) whole.kept.at_stage.1,
       filled_still,
     )
 
     pub whole_filled : IsWhole new (record { keys = index.keys; numbers = index.numbers; free = index.free; stale = index.stale; block = after.block }) key stages.Filled
-    whole_filled = whole_still old new index key (stages.Staged (length value)) whole kept_roots e.step.bounds e.did.exact e.did.ready after wide key stages.Filled none_was filled_still at_filled
+    whole_filled = whole_still old new index key (stages.Staged (length value)) whole kept_roots (bounds_of-same (words_of old.device) (words_of new.device) e.step.header) e.did.exact e.did.ready after wide key stages.Filled none_was filled_still at_filled
 
     pub has_filled : HasFilled (state_of old index key (stages.Staged (length value))) (state_of new (record { keys = index.keys; numbers = index.numbers; free = index.free; stale = index.stale; block = after.block }) key stages.Filled) key value
     has_filled =
-        let kept = keeps_still old new index key (stages.Staged (length value)) whole kept_roots e.step.bounds e.did.exact e.did.ready after wide key stages.Filled none_was filled_still at_filled
+        let kept = keeps_still old new index key (stages.Staged (length value)) whole kept_roots (bounds_of-same (words_of old.device) (words_of new.device) e.step.header) e.did.exact e.did.ready after wide key stages.Filled none_was filled_still at_filled
         (leaves_by old new (IsEitherWords was is) (IsSteadyDict (pairs_in was index.keys.rows)) (λ image l. left_written room_for e image (pairs_in was index.keys.rows) whole.kept.dict l) e.did) in
         record {
           number = number;
@@ -251,7 +252,7 @@ module _ (old new : ArenaState) (index : DictIndex) (key : ℕ) (progress : Prog
   none_now = none_left (words_of old.device) (words_of new.device) key progress not (freed_keeps f) (freed_none f) none_here
 
   pub whole_cancelled : IsWhole new index key stages.Idle
-  whole_cancelled = whole_still old new index key progress whole (freed_keeps f) f.did.step.bounds f.did.did.exact f.did.did.ready index whole.indexes.wide key stages.Idle none_here none_now tt
+  whole_cancelled = whole_still old new index key progress whole (freed_keeps f) (bounds_of-same (words_of old.device) (words_of new.device) f.did.step.header) f.did.did.exact f.did.did.ready index whole.indexes.wide key stages.Idle none_here none_now tt
 
   pub has_cancelled : HasCancelled (state_of old index key progress) (state_of new index key stages.Idle)
   has_cancelled = record {
@@ -260,6 +261,6 @@ module _ (old new : ArenaState) (index : DictIndex) (key : ℕ) (progress : Prog
     did = f.did;
     gone = freed_none f;
     tidy = none_now;
-    keeps = keeps_still old new index key progress whole (freed_keeps f) f.did.step.bounds f.did.did.exact f.did.did.ready index whole.indexes.wide key stages.Idle none_here none_now tt
+    keeps = keeps_still old new index key progress whole (freed_keeps f) (bounds_of-same (words_of old.device) (words_of new.device) f.did.step.header) f.did.did.exact f.did.did.ready index whole.indexes.wide key stages.Idle none_here none_now tt
         (leaves_by old new (IsEitherHeap (words_of old.device) (words_of new.device)) (IsSteadyDict (pairs_in (words_of old.device) index.keys.rows)) (λ image l. left_dict (words_of old.device) (words_of new.device) image (pairs_in (words_of old.device) index.keys.rows) whole.kept.dict (freed_others f) l) f.did.did);
   }

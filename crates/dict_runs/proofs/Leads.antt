@@ -5,6 +5,7 @@ use Rattle.heap_model.specs.declared.call.Call.TheVariants as calls
 use Rattle.heap_model.specs.declared.call.Reply.TheVariants as replies
 use Rattle.heap_model.specs.Placement.{Stacks, IsPlacedStep}
 use Rattle.thread_cache.specs.Stacks.{stacks_of}
+use Rattle.heap_check.proofs.Forms.{bounds_of-same}
 use Rattle.arena_core.specs.Answered.{IsAnswered, IsMoveAnswered, IsWriteAnswered}
 use Rattle.dict_runs.specs.Acts.{Act, Ask, Fill, Leads}
 use Rattle.dict_runs.specs.Turns.{standing}
@@ -32,7 +33,7 @@ module _ (b : Bounds) (old new : ArenaState) (machine : Machine) (state : HasSta
           state = found.2;
         };
         state = found.2;
-        bounds = answered.step.bounds ∙ bounds;
+        bounds = bounds_of-same (words_of old.device) (words_of new.device) answered.step.header ∙ bounds;
       }
 
   -- a move
@@ -53,7 +54,7 @@ module _ (b : Bounds) (old new : ArenaState) (machine : Machine) (state : HasSta
           state = found.2;
         };
         state = found.2;
-        bounds = step.bounds ∙ bounds;
+        bounds = bounds_of-same (words_of old.device) (words_of new.device) step.header ∙ bounds;
       }
 
   -- a row of words
@@ -71,5 +72,5 @@ module _ (b : Bounds) (old new : ArenaState) (machine : Machine) (state : HasSta
           state = found.2;
         };
         state = found.2;
-        bounds = answered.step.bounds ∙ bounds;
+        bounds = bounds_of-same (words_of old.device) (words_of new.device) answered.step.header ∙ bounds;
       }

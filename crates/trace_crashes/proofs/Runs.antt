@@ -5,6 +5,7 @@ use Rattle.pmem_lines.specs.Events.{reading}
 use Rattle.heap_model.specs.Placement.{PlacedState, Stacks, IsPlacedStep}
 use Rattle.thread_cache.specs.Stacks.{stacks_of}
 use Rattle.heap_check.specs.State.{HasState}
+use Rattle.heap_check.proofs.Forms.{bounds_of-same}
 use Rattle.arena_journal.specs.Journals.{HasDone}
 use Rattle.trace_runs.specs.Runs.{words_after}
 use Rattle.trace_crashes.specs.Steps.{Steps, IsStepAt, runs_from}
@@ -41,7 +42,7 @@ run_from b first last machine (call ∷ calls) (stage ∷ stages) state bounds s
         step = subst (λ (c : Bounds). IsPlacedStep c call.thread (beside first machine) call.call made.reply (beside next found.0)) bounds found.1;
         state = subst (λ (words : List ℕ). HasState words found.0) behind found.2;
       },
-      subst (λ (words : List ℕ). IsRun b words next.line (beside next found.0) calls stages) behind (run_from b next last found.0 calls stages found.2 (made.answered.step.bounds ∙ bounds) steps.2),
+      subst (λ (words : List ℕ). IsRun b words next.line (beside next found.0) calls stages) behind (run_from b next last found.0 calls stages found.2 (bounds_of-same (words_of first.device) (words_of next.device) made.answered.step.header ∙ bounds) steps.2),
     )
 
 -- from a new arena on
