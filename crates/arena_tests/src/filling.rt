@@ -1,8 +1,12 @@
 // Arenas of version 2 that are filled until there is no space: the least one, of 25 granules, and the largest, of 4096. The heap
 // begins at granule 13.
+ghost use Rattle.std.specs.Prelude.{◌≤◌};
+
 use crate::arenas::{moved, second_arena, write};
+use crate::values::same;
 use arena_core::{Arena, BlockRefusal, FreeRefusal, MallocRefusal, MoveRefusal, Placed};
 use pmem_lines::SimPmem;
+use std::alloc::Global;
 use std::process::Abort;
 use std::test::Fail;
 
@@ -45,6 +49,22 @@ fn holds<R: Abort>(
     Ok(())
 }
 
+// So it is in a new arena of so many granules.
+fn new_arena_holds<R: Abort>(
+    rt: &R,
+    alloc: Global,
+    granules: u32,
+    size: u64,
+    count: u32,
+    last: u32,
+) -> Result<(), Fail>
+    requires least { 25 ≤ granules }
+    requires most { granules ≤ 4096 }
+{
+    let mut arena = second_arena(alloc, granules)?;
+    holds(rt, &mut arena, size, count, last)
+}
+
 // The heap has 12 granules: six blocks of two, three slabs of three blocks of 16384 bytes, or one block of all.
 #[test]
 fn the_least_arena(rt: HostRuntime) -> Result<(), Fail> {
@@ -53,8 +73,7 @@ fn the_least_arena(rt: HostRuntime) -> Result<(), Fail> {
         (16_384, 9, 378_880),
         (196_608, 1, 212_992),
     ] {
-        let mut arena = second_arena(rt.alloc(), 25)?;
-        holds(&rt, &mut arena, size, count, last)?;
+        new_arena_holds(&rt, rt.alloc(), 25, size, count, last)?;
     }
     Ok(())
 }
@@ -67,34 +86,43 @@ fn the_largest_arena(rt: HostRuntime) -> Result<(), Fail> {
         (16_384, 3060, 67_028_992),
         (66_895_872, 1, 212_992),
     ] {
-        let mut arena = second_arena(rt.alloc(), 4096)?;
-        holds(&rt, &mut arena, size, count, last)?;
+        new_arena_holds(&rt, rt.alloc(), 4096, size, count, last)?;
     }
     Ok(())
 }
 
 // Root 16383 is the last one, and 196608 bytes are the heap's.
 fn end_where_they_end<R: Abort>(rt: &R, arena: &mut Arena<SimPmem>) -> Result<(), Fail> {
-    assert_eq!(rt;
-        arena.malloc_to(0, 16383, 100),
-        Ok(Placed {
+    same(
+        rt,
+        &arena.malloc_to(0, 16383, 100),
+        &Ok(Placed {
             at: 215_040,
-            size: 112
-        })
+            size: 112,
+        }),
     );
-    assert_eq!(rt; arena.malloc_to(0, 16384, 100), Err(MallocRefusal::NoRoot));
-    assert_eq!(rt;
-        arena.malloc_to(0, 1, 196_609),
-        Err(MallocRefusal::TooLarge)
+    same(
+        rt,
+        &arena.malloc_to(0, 16384, 100),
+        &Err(MallocRefusal::NoRoot),
     );
-    assert_eq!(rt; arena.free_from(0, 16384), Err(FreeRefusal::NoRoot));
-    assert_eq!(rt; write(arena, 16383, 13, &[9]), Ok(()));
-    assert_eq!(rt; write(arena, 16384, 0, &[9]), Err(BlockRefusal::NoRoot));
+    same(
+        rt,
+        &arena.malloc_to(0, 1, 196_609),
+        &Err(MallocRefusal::TooLarge),
+    );
+    same(rt, &arena.free_from(0, 16384), &Err(FreeRefusal::NoRoot));
+    same(rt, &write(arena, 16383, 13, &[9]), &Ok(()));
+    same(
+        rt,
+        &write(arena, 16384, 0, &[9]),
+        &Err(BlockRefusal::NoRoot),
+    );
     assert!(rt; matches!(arena.view(16384), Err(BlockRefusal::NoRoot)));
-    assert_eq!(rt; moved(arena, 16383, 16384), Err(MoveRefusal::NoRoot));
-    assert_eq!(rt; moved(arena, 16384, 16383), Err(MoveRefusal::NoRoot));
+    same(rt, &moved(arena, 16383, 16384), &Err(MoveRefusal::NoRoot));
+    same(rt, &moved(arena, 16384, 16383), &Err(MoveRefusal::NoRoot));
     assert!(rt; moved(arena, 16383, 4096).is_ok());
-    assert_eq!(rt; place_of(arena, 4096), Some(215_040));
+    same(rt, &place_of(arena, 4096), &Some(215_040));
     Ok(())
 }
 

@@ -14,3 +14,5 @@ mod filling;
 mod moves;
 #[cfg(test)]
 mod payload;
+#[cfg(test)]
+mod values;

@@ -1,6 +1,9 @@
 // Blocks that move from a root to another, in an arena of 16 granules: root 5 has the block of 112 bytes at 67584, and root
 // 7 the two granules at 131072.
+ghost use Rattle.std.specs.Prelude.{◌≤◌, length};
+
 use crate::arenas::{freed, gave, had, moved, new_arena, write};
+use crate::values::same;
 use arena_core::{Arena, MoveRefusal, Moved};
 use heap_model::Block;
 use pmem_lines::{Event, OutOfMemory, Pmem, SimPmem};
@@ -20,12 +23,11 @@ const LARGE: Moved = Moved {
     size: 32768,
 };
 
-// An arena with both blocks. The small one took write-ahead line 0.
-fn arena_of_two(alloc: Global) -> Result<Option<Arena<SimPmem>>, OutOfMemory> {
-    let mut arena = new_arena(alloc)?;
-    let small = gave(&mut arena, 0, 5, 100);
-    let large = gave(&mut arena, 0, 7, 20000);
-    Ok(if small && large { Some(arena) } else { None })
+// A new arena gives both blocks. The small one takes write-ahead line 0.
+fn gave_both(arena: &mut Arena<SimPmem>) -> bool {
+    let small = gave(arena, 0, 5, 100);
+    let large = gave(arena, 0, 7, 20000);
+    small && large
 }
 
 // The entry of a move stands on a line; a root's word is on line 256 where the root is one of the first eight, and on
@@ -82,32 +84,32 @@ fn all_move<R: Abort>(rt: &R, arena: &mut Arena<SimPmem>) -> Result<(), Fail> {
         (9, 2, SMALL, 2, 0x0002_0009_0005),
         (7, 5, LARGE, 3, 0x0005_0007_0005),
     ];
-    assert_eq!(rt; write(arena, 5, 0, &[31, 32]), Ok(()));
+    assert!(rt; gave_both(arena), "no arena of two blocks");
+    same(rt, &write(arena, 5, 0, &[31, 32]), &Ok(()));
     for (from, to, block, line, entry) in table {
         assert_eq!(rt; moved(arena, from, to), Ok(block), "from {from} to {to}");
         let events = events_of(line, entry, from, to, u64::from(block.at));
         assert!(rt; had(arena, &events), "events from {from} to {to}");
-        assert_eq!(rt;
-            (block_of(arena, from), block_of(arena, to)),
-            (None, Some(block))
+        same(
+            rt,
+            &(block_of(arena, from), block_of(arena, to)),
+            &(None, Some(block)),
         );
     }
     let first = match arena.view(2) {
         Ok(view) => view.get(1).copied(),
         Err(_) => None,
     };
-    assert_eq!(rt; first, Some(32));
+    same(rt, &first, &Some(32));
     assert!(rt; freed(arena, 0, 2));
     assert!(rt; freed(arena, 0, 5));
-    assert_eq!(rt; arena.pmem().event_count(), 6);
+    same(rt, &arena.pmem().event_count(), &6);
     Ok(())
 }
 
 #[test]
 fn blocks_move(rt: HostRuntime) -> Result<(), Fail> {
-    let Some(mut arena) = arena_of_two(rt.alloc())? else {
-        return Ok(assert!(rt; false, "no arena of two blocks"));
-    };
+    let mut arena = new_arena(rt.alloc())?;
     all_move(&rt, &mut arena)
 }
 
@@ -125,22 +127,22 @@ fn all_refused<R: Abort>(rt: &R, arena: &mut Arena<SimPmem>) -> Result<(), Fail>
         (5, 7, MoveRefusal::Occupied { at: 131072 }),
         (7, 5, MoveRefusal::Occupied { at: 67584 }),
     ];
+    assert!(rt; gave_both(arena), "no arena of two blocks");
     for (from, to, refusal) in table {
         assert_eq!(rt; moved(arena, from, to), Err(refusal), "from {from} to {to}");
-        assert_eq!(rt; arena.pmem().event_count(), 0);
+        same(rt, &arena.pmem().event_count(), &0);
     }
-    assert_eq!(rt;
-        (block_of(arena, 5), block_of(arena, 7)),
-        (Some(SMALL), Some(LARGE))
+    same(
+        rt,
+        &(block_of(arena, 5), block_of(arena, 7)),
+        &(Some(SMALL), Some(LARGE)),
     );
     Ok(())
 }
 
 #[test]
 fn refusals_in_their_order(rt: HostRuntime) -> Result<(), Fail> {
-    let Some(mut arena) = arena_of_two(rt.alloc())? else {
-        return Ok(assert!(rt; false, "no arena of two blocks"));
-    };
+    let mut arena = new_arena(rt.alloc())?;
     all_refused(&rt, &mut arena)
 }
 
@@ -167,20 +169,33 @@ fn holder(words: &[u64], at: u64) -> Option<u32> {
     }
 }
 
+// The holder by an image of a device behind the first `k` events of its last call, as a generator from `seed` picks.
+fn holder_behind(
+    alloc: Global,
+    device: &SimPmem,
+    k: u32,
+    seed: u64,
+) -> Result<Option<u32>, OutOfMemory>
+    requires { k ≤ length device.now.events }
+{
+    let mut picks = SplitMix64::from_seed(seed.to_le_bytes());
+    let words = device.image(alloc, k, &mut picks)?;
+    Ok(holder(&words, 67584))
+}
+
 // After each number of events: the first three are of the entry, and after the sixth the new root's word is durable.
 fn held_after_each<R: Abort>(
     rt: &R,
     alloc: Global,
     arena: &mut Arena<SimPmem>,
 ) -> Result<(), Fail> {
-    assert_eq!(rt; moved(arena, 5, 9), Ok(SMALL));
+    assert!(rt; gave_both(arena), "no arena of two blocks");
+    same(rt, &moved(arena, 5, 9), &Ok(SMALL));
     for k in 0..=12 {
         for seed in 0..16u64 {
-            let mut picks = SplitMix64::from_seed(seed.to_le_bytes());
             let device = arena.pmem();
             if k <= device.event_count() {
-                let words = device.image(alloc, k, &mut picks)?;
-                let held = holder(&words, 67584);
+                let held = holder_behind(alloc, device, k, seed)?;
                 let before = k <= 5 && held == Some(5);
                 let after = k >= 4 && held == Some(9);
                 assert!(rt; before || after, "seed {seed}, after {k}");
@@ -192,8 +207,6 @@ fn held_after_each<R: Abort>(
 
 #[test]
 fn crashes_within(rt: HostRuntime) -> Result<(), Fail> {
-    let Some(mut arena) = arena_of_two(rt.alloc())? else {
-        return Ok(assert!(rt; false, "no arena of two blocks"));
-    };
+    let mut arena = new_arena(rt.alloc())?;
     held_after_each(&rt, rt.alloc(), &mut arena)
 }

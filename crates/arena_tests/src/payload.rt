@@ -1,9 +1,9 @@
 // The words of blocks, in an arena of 16 granules. Root 5 has the block of 112 bytes at 67584, which are 14 words on lines
 // 1056 and 1057.
 use crate::arenas::{freed, gave, had, new_arena, write};
+use crate::values::same;
 use arena_core::{Arena, BlockRefusal};
 use pmem_lines::{Event, SimPmem};
-use std::alloc::Global;
 use std::process::Abort;
 use std::test::Fail;
 
@@ -15,17 +15,11 @@ fn has(arena: &Arena<SimPmem>, root: u32, words: &[u64]) -> bool {
     }
 }
 
-// An arena in which root 5 has its block.
-fn arena_of_one(alloc: Global) -> Result<Arena<SimPmem>, Fail> {
-    let mut arena = new_arena(alloc)?;
-    let _ = gave(&mut arena, 0, 5, 100).then_some(()).ok_or("no block")?;
-    Ok(arena)
-}
-
 // Four words on two lines. An arena is lent to what is tested of it, here and below: who has one in hand lets it go at each way
 // out, and each of these is dear to prove.
 fn lie_across_two_lines<R: Abort>(rt: &R, arena: &mut Arena<SimPmem>) -> Result<(), Fail> {
-    assert_eq!(rt; write(arena, 5, 6, &[1, 2, 3, 4]), Ok(()));
+    assert!(rt; gave(arena, 0, 5, 100), "no block");
+    same(rt, &write(arena, 5, 6, &[1, 2, 3, 4]), &Ok(()));
     assert!(rt;
         had(
             arena,
@@ -58,13 +52,14 @@ fn lie_across_two_lines<R: Abort>(rt: &R, arena: &mut Arena<SimPmem>) -> Result<
 
 #[test]
 fn across_two_lines(rt: HostRuntime) -> Result<(), Fail> {
-    let mut arena = arena_of_one(rt.alloc())?;
+    let mut arena = new_arena(rt.alloc())?;
     lie_across_two_lines(&rt, &mut arena)
 }
 
 // What lies past the end is refused, with no event, also where no words are written.
 fn end_with_their_block<R: Abort>(rt: &R, arena: &mut Arena<SimPmem>) -> Result<(), Fail> {
-    assert_eq!(rt; write(arena, 5, 12, &[8, 9]), Ok(()));
+    assert!(rt; gave(arena, 0, 5, 100), "no block");
+    same(rt, &write(arena, 5, 12, &[8, 9]), &Ok(()));
     assert!(rt;
         had(
             arena,
@@ -102,15 +97,16 @@ fn end_with_their_block<R: Abort>(rt: &R, arena: &mut Arena<SimPmem>) -> Result<
 
 #[test]
 fn at_the_end(rt: HostRuntime) -> Result<(), Fail> {
-    let mut arena = arena_of_one(rt.alloc())?;
+    let mut arena = new_arena(rt.alloc())?;
     end_with_their_block(&rt, &mut arena)
 }
 
 fn have_no_block<R: Abort>(rt: &R, arena: &mut Arena<SimPmem>) -> Result<(), Fail> {
-    assert_eq!(rt; write(arena, 4096, 0, &[1]), Err(BlockRefusal::NoRoot));
-    assert_eq!(rt;
-        write(arena, 4095, 4294967295, &[1]),
-        Err(BlockRefusal::Empty)
+    same(rt, &write(arena, 4096, 0, &[1]), &Err(BlockRefusal::NoRoot));
+    same(
+        rt,
+        &write(arena, 4095, 4294967295, &[1]),
+        &Err(BlockRefusal::Empty),
     );
     assert!(rt; matches!(arena.view(4096), Err(BlockRefusal::NoRoot)));
     assert!(rt; matches!(arena.view(4095), Err(BlockRefusal::Empty)));
@@ -126,15 +122,15 @@ fn no_block(rt: HostRuntime) -> Result<(), Fail> {
 
 fn are_the_longest<R: Abort>(rt: &R, arena: &mut Arena<SimPmem>) -> Result<(), Fail> {
     assert!(rt; gave(arena, 0, 7, 20000));
-    assert_eq!(rt; write(arena, 7, 1, &[3; 512]), Ok(()));
-    assert_eq!(rt; arena.pmem().event_count(), 578);
+    same(rt, &write(arena, 7, 1, &[3; 512]), &Ok(()));
+    same(rt, &arena.pmem().event_count(), &578);
     match arena.view(7) {
         Ok(view) => {
-            assert_eq!(rt; view.len(), 4096);
+            same(rt, &view.len(), &4096);
             let first = (view.get(0).copied(), view.get(1).copied());
-            assert_eq!(rt; first, (Some(0), Some(3)));
+            same(rt, &first, &(Some(0), Some(3)));
             let last = (view.get(512).copied(), view.get(513).copied());
-            assert_eq!(rt; last, (Some(3), Some(0)));
+            same(rt, &last, &(Some(3), Some(0)));
         }
         Err(_) => assert!(rt; false),
     }
@@ -149,13 +145,13 @@ fn the_longest(rt: HostRuntime) -> Result<(), Fail> {
 
 fn stay_while_others_come_and_go<R: Abort>(rt: &R, arena: &mut Arena<SimPmem>) -> Result<(), Fail> {
     assert!(rt; gave(arena, 0, 5, 16));
-    assert_eq!(rt; write(arena, 5, 0, &[11, 12]), Ok(()));
+    same(rt, &write(arena, 5, 0, &[11, 12]), &Ok(()));
     assert!(rt; gave(arena, 1, 6, 16));
-    assert_eq!(rt; write(arena, 6, 0, &[13, 14]), Ok(()));
+    same(rt, &write(arena, 6, 0, &[13, 14]), &Ok(()));
     assert!(rt; gave(arena, 0, 7, 40000));
     assert!(rt; freed(arena, 0, 6));
     assert!(rt; gave(arena, 0, 8, 16));
-    assert_eq!(rt; write(arena, 8, 1, &[15]), Ok(()));
+    same(rt, &write(arena, 8, 1, &[15]), &Ok(()));
     assert!(rt; freed(arena, 0, 7));
     assert!(rt; has(arena, 5, &[11, 12]));
     assert!(rt; has(arena, 8, &[13, 15]));

@@ -1,10 +1,13 @@
 // What the checker says of an image.
 use crate::images::{Base, Put, image};
+use crate::values::same;
 use image_check::{CheckFault, check_arena};
 use image_defects::Summary;
 use pmem_lines::OutOfMemory;
 use pool_layout::Defect;
 use std::alloc::Global;
+use std::process::Abort;
+use std::test::Fail;
 
 /// What the checker says of these words.
 pub fn answer_of(alloc: Global, words: &[u64]) -> Result<Result<Summary, Defect>, OutOfMemory> {
@@ -13,6 +16,17 @@ pub fn answer_of(alloc: Global, words: &[u64]) -> Result<Result<Summary, Defect>
         Err(CheckFault::Defect(defect)) => Ok(Err(defect)),
         Err(CheckFault::Memory(error)) => Err(error),
     }
+}
+
+/// The checker says this of these words.
+pub fn answer_is<R: Abort>(
+    rt: &R,
+    alloc: Global,
+    words: &[u64],
+    wanted: Result<Summary, Defect>,
+) -> Result<(), Fail> {
+    same(rt, &answer_of(alloc, words)?, &wanted);
+    Ok(())
 }
 
 /// What the checker says of an arena with the words of a row over its own.

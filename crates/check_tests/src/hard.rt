@@ -2,11 +2,12 @@
 // there may be, and what is wrong, if anything, at the end of a search; and of version 2 one of 4096 with all live extents.
 ghost use Rattle.std.specs.Prelude.{◌<◌};
 
-use crate::answers::{answer_of, bad_slab, counts, shared};
+use crate::answers::{answer_is, bad_slab, counts, shared};
 use crate::images::{Put, blank, put};
 use pmem_lines::OutOfMemory;
 use pool_layout::Defect;
 use std::alloc::Global;
+use std::process::Abort;
 use std::test::Fail;
 
 // The header line of the only arena, of 1024 granules, and a directory of eight chunks.
@@ -62,12 +63,16 @@ fn set_bit(words: &mut [u64], slab: u64, number: u64)
 // An arena with so many slabs, each with this state word, and else nothing.
 fn arena_of(alloc: Global, slabs: u64, state: u64) -> Result<Vec<u64>, OutOfMemory> {
     let mut words = blank(alloc, 2_097_152)?;
-    put(&mut words, &LARGEST);
-    for slab in 0..slabs.min(SLABS) {
-        put_entry(&mut words, slab, 2 + 256 * (4 + 4 * slab));
-        set(&mut words, 8192 * (1 + slab), state);
-    }
+    put_slabs(&mut words, slabs, state);
     Ok(words)
+}
+
+fn put_slabs(words: &mut [u64], slabs: u64, state: u64) {
+    put(words, &LARGEST);
+    for slab in 0..slabs.min(SLABS) {
+        put_entry(words, slab, 2 + 256 * (4 + 4 * slab));
+        set(words, 8192 * (1 + slab), state);
+    }
 }
 
 // Roots 0 to 4094 hold a block of 16 bytes each, by falling address, and root 4095 the block of root 4094. That is the
@@ -75,14 +80,17 @@ fn arena_of(alloc: Global, slabs: u64, state: u64) -> Result<Vec<u64>, OutOfMemo
 #[test]
 fn the_last_pair_of_roots(rt: HostRuntime) -> Result<(), Fail> {
     let mut words = arena_of(rt.alloc(), 2, 1)?;
+    share_at_the_last_pair(&rt, rt.alloc(), &mut words)
+}
+
+fn share_at_the_last_pair<R: Abort>(rt: &R, alloc: Global, words: &mut [u64]) -> Result<(), Fail> {
     for root in 0..4095 {
         let block = 4094 - root;
-        set_bit(&mut words, block / 3968, block % 3968);
-        hold(&mut words, root, block / 3968, 16 * (block % 3968));
+        set_bit(words, block / 3968, block % 3968);
+        hold(words, root, block / 3968, 16 * (block % 3968));
     }
-    hold(&mut words, 4095, 0, 0);
-    assert_eq!(rt; answer_of(rt.alloc(), &words)?, Err(shared(4094, 4095)));
-    Ok(())
+    hold(words, 4095, 0, 0);
+    answer_is(rt, alloc, words, Err(shared(4094, 4095)))
 }
 
 // Each slab took class 19 and was of class 3, and has 64 index entries. The last 16 are live in each, and the 16 before
@@ -91,23 +99,26 @@ fn the_last_pair_of_roots(rt: HostRuntime) -> Result<(), Fail> {
 #[test]
 fn all_slabs_in_transition(rt: HostRuntime) -> Result<(), Fail> {
     let mut words = arena_of(rt.alloc(), SLABS, 0x4003_1303)?;
+    are_all_in_transition(&rt, rt.alloc(), &mut words)
+}
+
+fn are_all_in_transition<R: Abort>(rt: &R, alloc: Global, words: &mut [u64]) -> Result<(), Fail> {
     for slab in 0..SLABS {
         for place in 0..64 {
             let at = 8192 * (1 + slab) + 8 * (9 + place % 8) + place / 8;
             let is_live = place >= 48 || (slab == 0 && place >= 32);
-            set(&mut words, at, 65536 * place + u64::from(is_live));
+            set(words, at, 65536 * place + u64::from(is_live));
         }
         for place in 48..64 {
-            hold(&mut words, 16 * slab + place - 48, slab, 64 * place);
+            hold(words, 16 * slab + place - 48, slab, 64 * place);
         }
     }
     for place in 32..48 {
-        hold(&mut words, 4048 + place, 0, 64 * place);
+        hold(words, 4048 + place, 0, 64 * place);
     }
-    assert_eq!(rt; answer_of(rt.alloc(), &words)?, counts(0, 255, 4096, 0));
-    set(&mut words, 8192 * SLABS + 8 * 16 + 7, 1);
-    assert_eq!(rt; answer_of(rt.alloc(), &words)?, Err(bad_slab(1020, 1)));
-    Ok(())
+    answer_is(rt, alloc, words, counts(0, 255, 4096, 0))?;
+    set(words, 8192 * SLABS + 8 * 16 + 7, 1);
+    answer_is(rt, alloc, words, Err(bad_slab(1020, 1)))
 }
 
 // The heap has 510 large extents of two granules, which is the most that there may be, and a root for each. The log's
@@ -116,34 +127,33 @@ fn all_slabs_in_transition(rt: HostRuntime) -> Result<(), Fail> {
 #[test]
 fn all_extents(rt: HostRuntime) -> Result<(), Fail> {
     let mut words = arena_of(rt.alloc(), 0, 0)?;
+    have_all_extents(&rt, rt.alloc(), &mut words)
+}
+
+fn have_all_extents<R: Abort>(rt: &R, alloc: Global, words: &mut [u64]) -> Result<(), Fail> {
     for number in 0..450 {
-        put_entry(&mut words, number, 3 + 256 * (4 + number));
+        put_entry(words, number, 3 + 256 * (4 + number));
     }
     for extent in 0..510 {
         let start = 4 + 2 * extent;
-        put_entry(&mut words, 450 + extent, 1 + 256 * start + 0x0200_0000);
-        set(&mut words, 2048 + extent, 16384 * start);
+        put_entry(words, 450 + extent, 1 + 256 * start + 0x0200_0000);
+        set(words, 2048 + extent, 16384 * start);
     }
-    assert_eq!(rt; answer_of(rt.alloc(), &words)?, counts(510, 0, 510, 0));
-    put(&mut words, &[(2048 + 508, 0), (2048 + 509, 0)]);
-    assert_eq!(rt;
-        answer_of(rt.alloc(), &words)?,
-        Err(Defect::TooManyLoose {
-            large: 2,
-            empty: 0,
-            morphing: 0,
-            done: 0
-        })
-    );
-    put_entry(&mut words, 958, 1 + 256 * 1020 + 0x0300_0000);
-    assert_eq!(rt;
-        answer_of(rt.alloc(), &words)?,
-        Err(Defect::Overlap {
-            first: 1020,
-            second: 1022
-        })
-    );
-    Ok(())
+    answer_is(rt, alloc, words, counts(510, 0, 510, 0))?;
+    put(words, &[(2048 + 508, 0), (2048 + 509, 0)]);
+    let loose = Defect::TooManyLoose {
+        large: 2,
+        empty: 0,
+        morphing: 0,
+        done: 0,
+    };
+    answer_is(rt, alloc, words, Err(loose))?;
+    put_entry(words, 958, 1 + 256 * 1020 + 0x0300_0000);
+    let overlap = Defect::Overlap {
+        first: 1020,
+        second: 1022,
+    };
+    answer_is(rt, alloc, words, Err(overlap))
 }
 
 // Sets all bits of all slabs, also those behind the last block.
@@ -159,26 +169,38 @@ fn set_all_bits(words: &mut [u64]) {
 // and roots hold the first 16 of each; the lowest that none has is block 16 of the first slab.
 #[test]
 fn all_bits(rt: HostRuntime) -> Result<(), Fail> {
-    let mut words = arena_of(rt.alloc(), SLABS, 0x1b01)?;
-    set_all_bits(&mut words);
+    bits_of_class_27(&rt, rt.alloc())?;
+    bits_of_class_0(&rt, rt.alloc())
+}
+
+fn bits_of_class_27<R: Abort>(rt: &R, alloc: Global) -> Result<(), Fail> {
+    let mut words = arena_of(alloc, SLABS, 0x1b01)?;
+    hold_all_blocks(&mut words);
+    answer_is(rt, alloc, &words, counts(0, 255, 3825, 0))
+}
+
+fn hold_all_blocks(words: &mut [u64]) {
+    set_all_bits(words);
     for slab in 0..SLABS {
         for number in 0..15 {
-            hold(&mut words, 15 * slab + number, slab, 4096 * number);
+            hold(words, 15 * slab + number, slab, 4096 * number);
         }
     }
-    assert_eq!(rt; answer_of(rt.alloc(), &words)?, counts(0, 255, 3825, 0));
-    let mut words = arena_of(rt.alloc(), SLABS, 1)?;
-    set_all_bits(&mut words);
+}
+
+fn bits_of_class_0<R: Abort>(rt: &R, alloc: Global) -> Result<(), Fail> {
+    let mut words = arena_of(alloc, SLABS, 1)?;
+    hold_first_blocks(&mut words);
+    answer_is(rt, alloc, &words, Err(Defect::StrayBit { at: 67840 }))
+}
+
+fn hold_first_blocks(words: &mut [u64]) {
+    set_all_bits(words);
     for slab in 0..SLABS {
         for number in 0..16 {
-            hold(&mut words, 16 * slab + number, slab, 16 * number);
+            hold(words, 16 * slab + number, slab, 16 * number);
         }
     }
-    assert_eq!(rt;
-        answer_of(rt.alloc(), &words)?,
-        Err(Defect::StrayBit { at: 67840 })
-    );
-    Ok(())
 }
 
 // The header line of the only arena of version 2, of 4096 granules, and a directory of five chunks.
@@ -193,22 +215,27 @@ const LARGEST_SECOND: [Put; 3] = [
 #[test]
 fn all_extents_of_version_2(rt: HostRuntime) -> Result<(), Fail> {
     let mut words = blank(rt.alloc(), 8_388_608)?;
-    put(&mut words, &LARGEST_SECOND);
+    have_all_extents_of_version_2(&rt, rt.alloc(), &mut words)
+}
+
+fn have_all_extents_of_version_2<R: Abort>(
+    rt: &R,
+    alloc: Global,
+    words: &mut [u64],
+) -> Result<(), Fail> {
+    put(words, &LARGEST_SECOND);
     for extent in 0..2041u64 {
         let own = extent % 504;
         let at = 18440 + 512 * (extent / 504) + 8 * (own % 63) + own / 63;
         let start = 13 + 2 * extent;
-        set(&mut words, at, 1 + 256 * start + 0x0200_0000);
-        set(&mut words, 2048 + extent, 16384 * start);
+        set(words, at, 1 + 256 * start + 0x0200_0000);
+        set(words, 2048 + extent, 16384 * start);
     }
-    assert_eq!(rt; answer_of(rt.alloc(), &words)?, counts(2041, 0, 2041, 0));
-    set(&mut words, 18440, 1 + 256 * 13 + 0x0300_0000);
-    assert_eq!(rt;
-        answer_of(rt.alloc(), &words)?,
-        Err(Defect::Overlap {
-            first: 13,
-            second: 15
-        })
-    );
-    Ok(())
+    answer_is(rt, alloc, words, counts(2041, 0, 2041, 0))?;
+    set(words, 18440, 1 + 256 * 13 + 0x0300_0000);
+    let overlap = Defect::Overlap {
+        first: 13,
+        second: 15,
+    };
+    answer_is(rt, alloc, words, Err(overlap))
 }

@@ -18,5 +18,7 @@ mod morphing;
 mod second_version;
 #[cfg(test)]
 mod small;
+#[cfg(test)]
+mod values;
 
 pub use images::{Base, IN_TRANSITION, ONE_BLOCK, Put, SECOND_VERSION, blank, image, put};

@@ -1,6 +1,7 @@
 // An arena with a slab that took another class, or is taking it.
 use crate::answers::{answer, bad_slab, bad_wal, counts, shared};
 use crate::images::{IN_TRANSITION, Put};
+use crate::values::same;
 use pool_layout::Defect;
 use std::test::Fail;
 
@@ -39,7 +40,7 @@ fn slabs_in_transition(rt: HostRuntime) -> Result<(), Fail> {
         (&[(2051, 198656), (64, 12884967429)], counts(1, 1, 3, 1)),
     ];
     for (changes, wanted) in rows {
-        assert_eq!(rt; answer(rt.alloc(), &IN_TRANSITION, changes)?, wanted);
+        same(&rt, &answer(rt.alloc(), &IN_TRANSITION, changes)?, &wanted);
     }
     Ok(())
 }

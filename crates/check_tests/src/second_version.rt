@@ -1,6 +1,7 @@
 // Defects of an arena of version 2 with one block, one by one: at the places of that version, and at the ends of its ranges.
-use crate::answers::{answer, answer_of, bad_slab, bad_wal, counts, shared};
+use crate::answers::{answer, answer_is, bad_slab, bad_wal, counts, shared};
 use crate::images::{Put, SECOND_VERSION, blank, put};
+use crate::values::same;
 use pool_layout::Defect;
 use std::test::Fail;
 
@@ -20,7 +21,7 @@ fn sound(rt: HostRuntime) -> Result<(), Fail> {
         (&[(1, 0x0001_0019_0000_0001)], counts(0, 0, 0, 0)),
     ];
     for (changes, wanted) in rows {
-        assert_eq!(rt; answer(rt.alloc(), &SECOND_VERSION, changes)?, wanted);
+        same(&rt, &answer(rt.alloc(), &SECOND_VERSION, changes)?, &wanted);
     }
     Ok(())
 }
@@ -29,14 +30,11 @@ fn sound(rt: HostRuntime) -> Result<(), Fail> {
 fn lengths(rt: HostRuntime) -> Result<(), Fail> {
     let mut short = blank(rt.alloc(), 51199)?;
     put(&mut short, SECOND_VERSION.words);
-    assert_eq!(rt;
-        answer_of(rt.alloc(), &short)?,
-        Err(Defect::BadLength {
-            have: 409_592,
-            need: 409_600
-        })
-    );
-    Ok(())
+    let defect = Defect::BadLength {
+        have: 409_592,
+        need: 409_600,
+    };
+    answer_is(&rt, rt.alloc(), &short, Err(defect))
 }
 
 // A header line with this second word is bad.
@@ -52,9 +50,10 @@ fn headers(rt: HostRuntime) -> Result<(), Fail> {
         0x0010_040a_0000_0002,
         0x0001_0019_0000_0003,
     ] {
-        assert_eq!(rt;
-            answer(rt.alloc(), &SECOND_VERSION, &[(1, value)])?,
-            Err(bad_header(value))
+        same(
+            &rt,
+            &answer(rt.alloc(), &SECOND_VERSION, &[(1, value)])?,
+            &Err(bad_header(value)),
         );
     }
     Ok(())
@@ -78,7 +77,11 @@ fn entries(rt: HostRuntime) -> Result<(), Fail> {
         (&[(18943, 3330)], bad_entry(503, 3330)),
     ];
     for (changes, defect) in rows {
-        assert_eq!(rt; answer(rt.alloc(), &SECOND_VERSION, changes)?, Err(defect));
+        same(
+            &rt,
+            &answer(rt.alloc(), &SECOND_VERSION, changes)?,
+            &Err(defect),
+        );
     }
     Ok(())
 }
@@ -120,7 +123,11 @@ fn defects(rt: HostRuntime) -> Result<(), Fail> {
         ),
     ];
     for (changes, defect) in rows {
-        assert_eq!(rt; answer(rt.alloc(), &SECOND_VERSION, changes)?, Err(defect));
+        same(
+            &rt,
+            &answer(rt.alloc(), &SECOND_VERSION, changes)?,
+            &Err(defect),
+        );
     }
     Ok(())
 }

@@ -1,34 +1,40 @@
 // Defects of an arena with one block, one by one. `moving` has its open entries of both kinds.
 mod moving;
 
-use crate::answers::{answer, answer_of, bad_slab, bad_wal, counts, shared};
+use crate::answers::{answer, answer_is, bad_slab, bad_wal, counts, shared};
 use crate::images::{ONE_BLOCK, Put, blank, image, put};
+use crate::values::same;
 use pool_layout::Defect;
+use std::alloc::Global;
+use std::process::Abort;
 use std::test::Fail;
 
 #[test]
 fn sound(rt: HostRuntime) -> Result<(), Fail> {
-    assert_eq!(rt; answer(rt.alloc(), &ONE_BLOCK, &[])?, counts(0, 1, 1, 0));
+    same(
+        &rt,
+        &answer(rt.alloc(), &ONE_BLOCK, &[])?,
+        &counts(0, 1, 1, 0),
+    );
     Ok(())
 }
 
 #[test]
 fn lengths(rt: HostRuntime) -> Result<(), Fail> {
-    let none = blank(rt.alloc(), 0)?;
-    assert_eq!(rt;
-        answer_of(rt.alloc(), &none)?,
-        Err(Defect::BadLength { have: 0, need: 64 })
-    );
-    let mut short = blank(rt.alloc(), 32767)?;
-    put(&mut short, ONE_BLOCK.words);
-    assert_eq!(rt;
-        answer_of(rt.alloc(), &short)?,
-        Err(Defect::BadLength {
-            have: 262136,
-            need: 262144
-        })
-    );
-    Ok(())
+    let none = Defect::BadLength { have: 0, need: 64 };
+    are_too_few(&rt, rt.alloc(), 0, none)?;
+    let short = Defect::BadLength {
+        have: 262136,
+        need: 262144,
+    };
+    are_too_few(&rt, rt.alloc(), 32767, short)
+}
+
+// The first so many words are too few.
+fn are_too_few<R: Abort>(rt: &R, alloc: Global, size: usize, defect: Defect) -> Result<(), Fail> {
+    let mut words = blank(alloc, size)?;
+    put(&mut words, ONE_BLOCK.words);
+    answer_is(rt, alloc, &words, Err(defect))
 }
 
 #[test]
@@ -88,7 +94,7 @@ fn defects(rt: HostRuntime) -> Result<(), Fail> {
         ),
     ];
     for (changes, defect) in rows {
-        assert_eq!(rt; answer(rt.alloc(), &ONE_BLOCK, changes)?, Err(defect));
+        same(&rt, &answer(rt.alloc(), &ONE_BLOCK, changes)?, &Err(defect));
     }
     Ok(())
 }
@@ -103,21 +109,24 @@ fn kinds_of_loose_things(rt: HostRuntime) -> Result<(), Fail> {
         (&[(8192, 16975363), (16384, 16975363)], [2, 0, 2]),
     ];
     for (changes, [empty, morphing, done]) in rows {
-        let mut words = image(
-            rt.alloc(),
-            &ONE_BLOCK,
-            &[(2053, 0), (6160, 2050), (8200, 0)],
-        )?;
-        put(&mut words, changes);
-        assert_eq!(rt;
-            answer_of(rt.alloc(), &words)?,
-            Err(Defect::TooManyLoose {
-                large: 0,
-                empty,
-                morphing,
-                done
-            })
-        );
+        let defect = Defect::TooManyLoose {
+            large: 0,
+            empty,
+            morphing,
+            done,
+        };
+        are_too_many_loose(&rt, rt.alloc(), changes, defect)?;
     }
     Ok(())
+}
+
+fn are_too_many_loose<R: Abort>(
+    rt: &R,
+    alloc: Global,
+    changes: &[Put],
+    defect: Defect,
+) -> Result<(), Fail> {
+    let mut words = image(alloc, &ONE_BLOCK, &[(2053, 0), (6160, 2050), (8200, 0)])?;
+    put(&mut words, changes);
+    answer_is(rt, alloc, &words, Err(defect))
 }

@@ -6,6 +6,7 @@ ghost use Rattle.attach_dict.specs.Dict.{most_values};
 ghost use Rattle.attach_dict.specs.Stages.{Idle, HasFilledPhase};
 ghost use Rattle.dict_tests.specs.Rest.{IsAtRest, IsNew, HasNumber, RaisesNumbers};
 
+use crate::values::same;
 use arena_core::{Arena, ArenaRoom};
 use attach_dict::{Dict, StageRefusal, law_of_stale_counts};
 use pmem_lines::{OutOfMemory, SimPmem};
@@ -121,13 +122,13 @@ fn change(dict: &mut Dict<SimPmem>) -> Result<(), Fail>
 
 // Key 7 has the word 5 and the greatest key has none, and there is no other.
 fn looks<R: Abort>(rt: &R, dict: &Dict<SimPmem>) -> Result<(), Fail> {
-    assert_eq!(rt; dict.len(), 2);
-    assert_eq!(rt; dict.stale(), 0);
-    assert_eq!(rt; dict.get(7).ok_or("no value")?, [5].as_slice());
-    assert_eq!(rt; dict.get(u64::MAX).ok_or("no value")?.len(), 0);
+    same(rt, &dict.len(), &2);
+    same(rt, &dict.stale(), &0);
+    same(rt, &dict.get(7).ok_or("no value")?, &[5].as_slice());
+    same(rt, &dict.get(u64::MAX).ok_or("no value")?.len(), &0);
     assert!(rt; dict.get(9).is_none());
-    assert_eq!(rt; dict.next_from(0).ok_or("no key")?.0, 7);
-    assert_eq!(rt; dict.next_from(8).ok_or("no key")?.0, u64::MAX);
+    same(rt, &dict.next_from(0).ok_or("no key")?.0, &7);
+    same(rt, &dict.next_from(8).ok_or("no key")?.0, &u64::MAX);
     Ok(())
 }
 
@@ -170,11 +171,11 @@ fn put_around_a_removal<R: Abort>(rt: &R, dict: &mut Dict<SimPmem>) -> Result<()
     }
     put(dict, 1, &[])?;
     put(dict, 2, &[])?;
-    assert_eq!(rt; number_at(dict, 1)?, 1);
-    assert_eq!(rt; number_at(dict, 2)?, 2);
+    same(rt, &number_at(dict, 1)?, &1);
+    same(rt, &number_at(dict, 2)?, &2);
     drop_key(dict, 2)?;
     put(dict, 3, &[])?;
-    assert_eq!(rt; number_at(dict, 2)?, 2);
+    same(rt, &number_at(dict, 2)?, &2);
     Ok(())
 }
 

@@ -3,6 +3,7 @@ ghost use Rattle.std.specs.Prelude.{◌≡◌, IfOk};
 ghost use Rattle.attach_dict.specs.Stages.{Idle};
 
 use crate::calls::{is_new, make_ready, new_arena, opened, put};
+use crate::values::same;
 use attach_dict::Dict;
 use pmem_lines::SimPmem;
 use rand_core::SeedableRng;
@@ -21,10 +22,17 @@ fn reopened(alloc: Global, device: &SimPmem, k: u32, seed: u64) -> Result<Dict<S
     }
     let mut picks = SplitMix64::seed_from_u64(seed);
     let image = device.image(alloc, k, &mut picks)?;
+    opened_of(alloc, &image)
+}
+
+// The dictionary that is opened of an image.
+fn opened_of(alloc: Global, image: &[u64]) -> Result<Dict<SimPmem>, Fail>
+    ensures { IfOk result (λ dict. dict.phase ≡ Idle) }
+{
     if image.len() % 8 != 0 || image.len() < 8 || image.len() > 8_388_608 {
         return Err(Fail::from("no image"));
     }
-    match recover(alloc, SimPmem::from_image(alloc, &image, 4096)?) {
+    match recover(alloc, SimPmem::from_image(alloc, image, 4096)?) {
         Ok(arena) => opened(alloc, arena),
         Err(_) => Err(Fail::from("no arena")),
     }
@@ -32,20 +40,34 @@ fn reopened(alloc: Global, device: &SimPmem, k: u32, seed: u64) -> Result<Dict<S
 
 // Key 7 has one word, and there is no other key.
 fn has_word<R: Abort>(rt: &R, dict: &Dict<SimPmem>, word: u64) -> Result<(), Fail> {
-    assert_eq!(rt; dict.len(), 1);
-    assert_eq!(rt; dict.get(7).ok_or("no value")?, [word].as_slice());
+    same(rt, &dict.len(), &1);
+    same(rt, &dict.get(7).ok_or("no value")?, &[word].as_slice());
     Ok(())
 }
 
 // One root is stale, which `tidy` frees; the map has a word all along.
 fn is_tidied<R: Abort>(rt: &R, dict: &mut Dict<SimPmem>, root: u32, word: u64) -> Result<(), Fail> {
-    assert_eq!(rt; dict.stale(), 1);
+    same(rt, &dict.stale(), &1);
     assert!(rt; dict.arena().block(root).is_some());
     has_word(rt, dict, word)?;
     assert!(rt; dict.tidy());
-    assert_eq!(rt; dict.stale(), 0);
+    same(rt, &dict.stale(), &0);
     assert!(rt; dict.arena().block(root).is_none());
     has_word(rt, dict, word)
+}
+
+// So it is of the image behind the first `k` events of a device's last call, as a generator from `seed` picks.
+fn is_tidied_behind<R: Abort>(
+    rt: &R,
+    alloc: Global,
+    device: &SimPmem,
+    k: u32,
+    seed: u64,
+    root: u32,
+    word: u64,
+) -> Result<(), Fail> {
+    let mut dict = reopened(alloc, device, k, seed)?;
+    is_tidied(rt, &mut dict, root, word)
 }
 
 // So it is of the images behind the first `from` events of a device's last call, and behind more of them.
@@ -59,8 +81,7 @@ fn all_cuts<R: Abort>(
 ) -> Result<(), Fail> {
     for k in from..=device.event_count() {
         for seed in 0..3 {
-            let mut dict = reopened(alloc, device, k, seed)?;
-            is_tidied(rt, &mut dict, root, word)?;
+            is_tidied_behind(rt, alloc, device, k, seed, root, word)?;
         }
     }
     Ok(())

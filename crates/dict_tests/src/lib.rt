@@ -10,3 +10,5 @@ mod calls;
 mod cuts;
 #[cfg(test)]
 mod misfits;
+#[cfg(test)]
+mod values;

@@ -2,6 +2,7 @@
 ghost use Rattle.std.specs.Prelude.{◌≤◌, length};
 
 use crate::calls::new_arena;
+use crate::values::same;
 use arena_core::Arena;
 use attach_dict::{Dict, OpenFault};
 use pmem_lines::SimPmem;
@@ -45,10 +46,16 @@ fn told(alloc: Global, arena: Arena<SimPmem>) -> Result<Option<u32>, Fail> {
     }
 }
 
-// The same of an arena with these blocks.
-fn told_of(alloc: Global, blocks: &[Laid<'_>]) -> Result<Option<u32>, Fail> {
+// An arena with these blocks.
+fn arena_with(alloc: Global, blocks: &[Laid<'_>]) -> Result<Arena<SimPmem>, Fail> {
     let mut arena = new_arena(alloc)?;
     lay_all(&mut arena, blocks)?;
+    Ok(arena)
+}
+
+// What is told of it.
+fn told_of(alloc: Global, blocks: &[Laid<'_>]) -> Result<Option<u32>, Fail> {
+    let arena = arena_with(alloc, blocks)?;
     told(alloc, arena)
 }
 
@@ -74,7 +81,7 @@ fn pairs_are_taken_and_the_stage_may_have_anything(rt: HostRuntime) -> Result<()
         pair(5, &[1, 2, 0]),
         pair(7, &[2, 1, 0]),
     ];
-    assert_eq!(rt; told_of(rt.alloc(), &blocks)?, None);
+    same(&rt, &told_of(rt.alloc(), &blocks)?, &None);
     Ok(())
 }
 
@@ -85,7 +92,7 @@ fn a_block_without_room_for_a_head_is_told(rt: HostRuntime) -> Result<(), Fail> 
         size: 16,
         words: &[1, 1],
     };
-    assert_eq!(rt; told_of(rt.alloc(), &[small])?, Some(3));
+    same(&rt, &told_of(rt.alloc(), &[small])?, &Some(3));
     Ok(())
 }
 
@@ -96,20 +103,20 @@ fn a_count_of_510_is_told(rt: HostRuntime) -> Result<(), Fail> {
         size: 16_384,
         words: &[1, 1, 510],
     };
-    assert_eq!(rt; told_of(rt.alloc(), &[large])?, Some(3));
+    same(&rt, &told_of(rt.alloc(), &[large])?, &Some(3));
     Ok(())
 }
 
 #[test]
 fn the_lowest_of_two_is_told(rt: HostRuntime) -> Result<(), Fail> {
-    assert_eq!(rt; told_of(rt.alloc(), &[wide(6), wide(4)])?, Some(4));
+    same(&rt, &told_of(rt.alloc(), &[wide(6), wide(4)])?, &Some(4));
     Ok(())
 }
 
 #[test]
 fn a_number_of_a_lower_root_is_told(rt: HostRuntime) -> Result<(), Fail> {
     let twice = [pair(2, &[1, 1, 0]), pair(5, &[1, 1, 0])];
-    assert_eq!(rt; told_of(rt.alloc(), &twice)?, Some(5));
+    same(&rt, &told_of(rt.alloc(), &twice)?, &Some(5));
     Ok(())
 }
 
@@ -120,15 +127,15 @@ fn a_number_of_a_stale_root_is_told(rt: HostRuntime) -> Result<(), Fail> {
         pair(5, &[1, 1, 0]),
         pair(7, &[1, 2, 0]),
     ];
-    assert_eq!(rt; told_of(rt.alloc(), &stale)?, Some(5));
+    same(&rt, &told_of(rt.alloc(), &stale)?, &Some(5));
     Ok(())
 }
 
 #[test]
 fn a_misfit_below_a_number_twice_is_told(rt: HostRuntime) -> Result<(), Fail> {
     let below = [pair(2, &[1, 1, 0]), pair(5, &[1, 1, 0]), wide(4)];
-    assert_eq!(rt; told_of(rt.alloc(), &below)?, Some(4));
+    same(&rt, &told_of(rt.alloc(), &below)?, &Some(4));
     let above = [pair(2, &[1, 1, 0]), pair(5, &[1, 1, 0]), wide(6)];
-    assert_eq!(rt; told_of(rt.alloc(), &above)?, Some(5));
+    same(&rt, &told_of(rt.alloc(), &above)?, &Some(5));
     Ok(())
 }

@@ -9,6 +9,7 @@ use gc_search::GcFault;
 use gc_search_tests::{ONE_BLOCK, small_word};
 use pmem_lines::{OutOfMemory, SimPmem};
 use std::alloc::Global;
+use std::process::Abort;
 use std::test::Fail;
 
 // The arena with one block, with the words of a row over its own, recovered. `None` where it is refused.
@@ -57,15 +58,16 @@ fn frees(arena: &mut GcArena<SimPmem>, root: u32, size: u32) -> bool {
 
 // The slab of class 6 has blocks of two other classes. Its own blocks are given beside them; no other class takes the slab, so that a
 // request of one opens a slab; and each block goes with its own size.
-fn has_two_old_classes(arena: &mut GcArena<SimPmem>) -> bool {
-    names(arena, 5, 67584, 112)
+fn has_two_old_classes<R: Abort>(rt: &R, arena: &mut GcArena<SimPmem>) {
+    let right = names(arena, 5, 67584, 112)
         && names(arena, 6, 67776, 64)
         && names(arena, 7, 67904, 32)
         && gives(arena, 8, 112, 68032)
         && gives(arena, 9, 200, 133120)
         && frees(arena, 7, 32)
         && frees(arena, 6, 64)
-        && frees(arena, 5, 112)
+        && frees(arena, 5, 112);
+    assert!(rt; right);
 }
 
 #[test]
@@ -75,10 +77,7 @@ fn blocks_of_two_old_classes(rt: HostRuntime) -> Result<(), Fail> {
         None => {
             assert!(rt; false);
         }
-        Some(mut arena) => {
-            let right = has_two_old_classes(&mut arena);
-            assert!(rt; right);
-        }
+        Some(mut arena) => has_two_old_classes(&rt, &mut arena),
     }
     Ok(())
 }
@@ -91,39 +90,50 @@ fn name_a_hundred(words: &mut [u64]) {
     }
 }
 
-// The slab of class 6 has those blocks besides its own. The first of its own blocks that none of
-// them covers is given, and each of them goes with its own size.
-fn has_a_hundred_old_blocks(arena: &mut GcArena<SimPmem>) -> bool {
-    if !gives(arena, 8, 112, 69376) {
-        return false;
-    }
+// The arena with one block and those, recovered. `None` where it is refused.
+fn arena_of_a_hundred(alloc: Global) -> Result<Option<GcArena<SimPmem>>, OutOfMemory> {
+    let mut words = image(alloc, &ONE_BLOCK, &[])?;
+    name_a_hundred(&mut words);
+    arena_over(alloc, &words)
+}
+
+// Each of them goes with its own size.
+fn frees_a_hundred(arena: &mut GcArena<SimPmem>) -> bool {
     for k in 0..100u32 {
         if !frees(arena, 52 + k, 16) {
             return false;
         }
     }
-    names(arena, 5, 67584, 112) && names(arena, 8, 69376, 112)
+    true
+}
+
+// The slab of class 6 has those blocks besides its own. The first of its own blocks that none of
+// them covers is given, and each of them goes with its own size.
+fn has_a_hundred_old_blocks<R: Abort>(rt: &R, arena: &mut GcArena<SimPmem>) {
+    let right = gives(arena, 8, 112, 69376)
+        && frees_a_hundred(arena)
+        && names(arena, 5, 67584, 112)
+        && names(arena, 8, 69376, 112);
+    assert!(rt; right);
 }
 
 #[test]
 fn a_hundred_old_blocks(rt: HostRuntime) -> Result<(), Fail> {
-    let mut words = image(rt.alloc(), &ONE_BLOCK, &[])?;
-    name_a_hundred(&mut words);
-    match arena_over(rt.alloc(), &words)? {
+    match arena_of_a_hundred(rt.alloc())? {
         None => {
             assert!(rt; false);
         }
-        Some(mut arena) => {
-            let right = has_a_hundred_old_blocks(&mut arena);
-            assert!(rt; right);
-        }
+        Some(mut arena) => has_a_hundred_old_blocks(&rt, &mut arena),
     }
     Ok(())
 }
 
 // A large extent that no root names has gone, so that all granules but those of the slab are free.
-fn has_room(arena: &mut GcArena<SimPmem>) -> bool {
-    gives(arena, 0, 8 * 16384, 131072) && frees(arena, 5, 112) && gives(arena, 1, 4 * 16384, 65536)
+fn has_room<R: Abort>(rt: &R, arena: &mut GcArena<SimPmem>) {
+    let right = gives(arena, 0, 8 * 16384, 131072)
+        && frees(arena, 5, 112)
+        && gives(arena, 1, 4 * 16384, 65536);
+    assert!(rt; right);
 }
 
 #[test]
@@ -132,10 +142,7 @@ fn granules_of_a_loose_extent(rt: HostRuntime) -> Result<(), Fail> {
         None => {
             assert!(rt; false);
         }
-        Some(mut arena) => {
-            let right = has_room(&mut arena);
-            assert!(rt; right);
-        }
+        Some(mut arena) => has_room(&rt, &mut arena),
     }
     Ok(())
 }

@@ -28,30 +28,54 @@ pub enum Became {
 /// The arena with one block, with the words of a row over its own, is recovered, and its words are compared with those of another
 /// row over them.
 pub fn recovered(alloc: Global, changes: &[Put], after: &[Put]) -> Result<Became, OutOfMemory> {
+    let wanted = image_under(alloc, changes, after)?;
+    compared(alloc, changes, &wanted)
+}
+
+// The words of that arena under two rows, the second over the first.
+fn image_under(alloc: Global, changes: &[Put], after: &[Put]) -> Result<Vec<u64>, OutOfMemory> {
+    let mut words = image(alloc, &ONE_BLOCK, changes)?;
+    put(&mut words, after);
+    Ok(words)
+}
+
+// That arena, with the words of a row over its own, is recovered, and its words are compared with these.
+fn compared(alloc: Global, changes: &[Put], wanted: &[u64]) -> Result<Became, OutOfMemory> {
     let before = image(alloc, &ONE_BLOCK, changes)?;
-    let mut wanted = image(alloc, &ONE_BLOCK, changes)?;
-    put(&mut wanted, after);
-    let device = SimPmem::from_image(alloc, &before, ROOM)?;
+    recovery_of(alloc, &before, wanted)
+}
+
+// What becomes of words, where these are wanted.
+fn recovery_of(alloc: Global, before: &[u64], wanted: &[u64]) -> Result<Became, OutOfMemory>
+    requires whole { length before.now % 8 ≡ 0 }
+    requires some { 8 ≤ length before.now }
+    requires few { length before.now ≤ 8388608 }
+{
+    let device = SimPmem::from_image(alloc, before, ROOM)?;
     match recover_device(alloc, device) {
-        Ok(done) => {
-            if done.device.words(0, done.device.size_words()) == wanted.as_slice() {
-                Ok(Became::Wanted {
-                    events: done.device.event_count(),
-                })
-            } else {
-                Ok(Became::Other)
-            }
-        }
+        Ok(done) => Ok(recovered_to(&done.device, wanted)),
         Err((GcFault::Memory(error), _)) => Err(error),
-        Err((GcFault::Defect(defect), device)) => {
-            if device.words(0, device.size_words()) == before.as_slice()
-                && device.event_count() == 0
-            {
-                Ok(Became::Refused(defect))
-            } else {
-                Ok(Became::Changed)
-            }
+        Err((GcFault::Defect(defect), device)) => Ok(was_refused(&device, before, defect)),
+    }
+}
+
+// A device was made exact: whether it has the words that are wanted.
+fn recovered_to(device: &SimPmem, wanted: &[u64]) -> Became {
+    if device.words(0, device.size_words()) == wanted {
+        Became::Wanted {
+            events: device.event_count(),
         }
+    } else {
+        Became::Other
+    }
+}
+
+// A device was refused for this defect: whether it has the words from before, and no event.
+fn was_refused(device: &SimPmem, before: &[u64], defect: Defect) -> Became {
+    if device.words(0, device.size_words()) == before && device.event_count() == 0 {
+        Became::Refused(defect)
+    } else {
+        Became::Changed
     }
 }
 

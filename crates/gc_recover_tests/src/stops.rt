@@ -9,6 +9,7 @@ use pmem_lines::{OutOfMemory, Pmem, SimPmem};
 use rand_core::SeedableRng;
 use rand_xoshiro::SplitMix64;
 use std::alloc::Global;
+use std::process::Abort;
 use std::test::Fail;
 
 // Puts entries into the first chunk from the third place on: a large extent at granule 10 comes and goes until the chunk is full.
@@ -68,18 +69,40 @@ fn is_left_well(alloc: Global, words: &[u64], device: &SimPmem, k: u32) -> Resul
 #[test]
 fn at_every_event(rt: HostRuntime) -> Result<(), Fail> {
     let words = full_log(rt.alloc())?;
-    match device_of(rt.alloc(), &words)? {
+    recover_and_stop(&rt, rt.alloc(), &words)
+}
+
+// The device of these words is recovered, and its recovery is stopped at every event.
+fn recover_and_stop<R: Abort>(rt: &R, alloc: Global, words: &[u64]) -> Result<(), Fail>
+    requires whole { length words.now % 8 ≡ 0 }
+    requires some { 8 ≤ length words.now }
+    requires few { length words.now ≤ 8388608 }
+{
+    match device_of(alloc, words)? {
         None => {
             assert!(rt; false);
+            Ok(())
         }
-        Some(device) => {
-            assert!(rt; has_same_heap(&device, &words));
-            assert!(rt; device.event_count() > 6);
-            for k in 0..device.event_count() {
-                assert!(rt; is_left_well(rt.alloc(), &words, &device, k)?);
-            }
-            assert!(rt; is_left_well(rt.alloc(), &words, &device, device.event_count())?);
-        }
+        Some(device) => stop_at_every_event(rt, alloc, words, &device),
     }
+}
+
+// The same of a device that was recovered.
+fn stop_at_every_event<R: Abort>(
+    rt: &R,
+    alloc: Global,
+    words: &[u64],
+    device: &SimPmem,
+) -> Result<(), Fail>
+    requires whole { length (words_of device.now) % 8 ≡ 0 }
+    requires some { 8 ≤ length (words_of device.now) }
+    requires few { length (words_of device.now) ≤ 8388608 }
+{
+    assert!(rt; has_same_heap(device, words));
+    assert!(rt; device.event_count() > 6);
+    for k in 0..device.event_count() {
+        assert!(rt; is_left_well(alloc, words, device, k)?);
+    }
+    assert!(rt; is_left_well(alloc, words, device, device.event_count())?);
     Ok(())
 }

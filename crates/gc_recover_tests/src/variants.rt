@@ -11,6 +11,7 @@ use pmem_lines::{OutOfMemory, Pmem, SimPmem};
 use pool_layout::Defect;
 use recover::{RecoverFault, recover};
 use std::alloc::Global;
+use std::process::Abort;
 use std::test::Fail;
 
 // The header's text of the LOG variant, `NVALLOG1`, and of this one, `NVALGC01`, as a word.
@@ -85,20 +86,30 @@ fn other_text(value: u64) -> Option<Defect> {
     Some(Defect::BadHeader { word: 0, value })
 }
 
-#[test]
-fn images_of_the_log_variant(rt: HostRuntime) -> Result<(), Fail> {
-    let device = copy_of(rt.alloc(), &log_memory(rt.alloc())?)?;
-    assert_eq!(rt; gc_refused(rt.alloc(), device)?, other_text(LOG_TEXT));
-    let device = copy_of(rt.alloc(), &log_memory(rt.alloc())?)?;
-    assert_eq!(rt; refused(rt.alloc(), device)?, None);
+// Recovery of this variant refuses a copy of a memory for the first defect, and that of the LOG variant for the second. `None`
+// where it does not.
+fn are_refused<R: Abort>(
+    rt: &R,
+    alloc: Global,
+    memory: &SimPmem,
+    by_gc: Option<Defect>,
+    by_log: Option<Defect>,
+) -> Result<(), Fail> {
+    let device = copy_of(alloc, memory)?;
+    assert_eq!(rt; gc_refused(alloc, device)?, by_gc);
+    let device = copy_of(alloc, memory)?;
+    assert_eq!(rt; refused(alloc, device)?, by_log);
     Ok(())
 }
 
 #[test]
+fn images_of_the_log_variant(rt: HostRuntime) -> Result<(), Fail> {
+    let memory = log_memory(rt.alloc())?;
+    are_refused(&rt, rt.alloc(), &memory, other_text(LOG_TEXT), None)
+}
+
+#[test]
 fn images_of_the_gc_variant(rt: HostRuntime) -> Result<(), Fail> {
-    let device = copy_of(rt.alloc(), &gc_memory(rt.alloc())?)?;
-    assert_eq!(rt; refused(rt.alloc(), device)?, other_text(GC_TEXT));
-    let device = copy_of(rt.alloc(), &gc_memory(rt.alloc())?)?;
-    assert_eq!(rt; gc_refused(rt.alloc(), device)?, None);
-    Ok(())
+    let memory = gc_memory(rt.alloc())?;
+    are_refused(&rt, rt.alloc(), &memory, None, other_text(GC_TEXT))
 }

@@ -1,6 +1,7 @@
 // Each defect once, in an arena with one block.
 use crate::answers::{answer, answer_of, bad_slab, shared, stray_root, too_many_loose};
 use crate::images::{ONE_BLOCK, small_word};
+use crate::values::same;
 use check_tests::{Put, blank, put};
 use pool_layout::Defect;
 use std::test::Fail;
@@ -8,18 +9,20 @@ use std::test::Fail;
 #[test]
 fn lengths(rt: HostRuntime) -> Result<(), Fail> {
     let none = blank(rt.alloc(), 0)?;
-    assert_eq!(rt;
-        answer_of(rt.alloc(), &none)?,
-        Some(Defect::BadLength { have: 0, need: 64 })
+    same(
+        &rt,
+        &answer_of(rt.alloc(), &none)?,
+        &Some(Defect::BadLength { have: 0, need: 64 }),
     );
     let mut short = blank(rt.alloc(), 32767)?;
     put(&mut short, ONE_BLOCK.words);
-    assert_eq!(rt;
-        answer_of(rt.alloc(), &short)?,
-        Some(Defect::BadLength {
+    same(
+        &rt,
+        &answer_of(rt.alloc(), &short)?,
+        &Some(Defect::BadLength {
             have: 262136,
-            need: 262144
-        })
+            need: 262144,
+        }),
     );
     Ok(())
 }
@@ -38,12 +41,13 @@ fn headers(rt: HostRuntime) -> Result<(), Fail> {
         (1, 0x0001_0010_0001_0001),
     ];
     for (word, value) in rows {
-        assert_eq!(rt;
-            answer(rt.alloc(), &[(word, value)])?,
-            Some(Defect::BadHeader {
+        same(
+            &rt,
+            &answer(rt.alloc(), &[(word, value)])?,
+            &Some(Defect::BadHeader {
                 word: word as u8,
-                value
-            })
+                value,
+            }),
         );
     }
     Ok(())
@@ -79,7 +83,7 @@ fn logs(rt: HostRuntime) -> Result<(), Fail> {
         ),
     ];
     for (changes, defect) in rows {
-        assert_eq!(rt; answer(rt.alloc(), changes)?, Some(defect));
+        same(&rt, &answer(rt.alloc(), changes)?, &Some(defect));
     }
     Ok(())
 }
@@ -87,9 +91,13 @@ fn logs(rt: HostRuntime) -> Result<(), Fail> {
 // The greatest class and one more, the two other kinds of state, no kind, and a bit above the class.
 #[test]
 fn state_words(rt: HostRuntime) -> Result<(), Fail> {
-    assert_eq!(rt; answer(rt.alloc(), &[(8192, 8961)])?, None);
+    same(&rt, &answer(rt.alloc(), &[(8192, 8961)])?, &None);
     for value in [9217, 16975362, 16975363, 1536, 67073] {
-        assert_eq!(rt; answer(rt.alloc(), &[(8192, value)])?, bad_slab(4, value));
+        same(
+            &rt,
+            &answer(rt.alloc(), &[(8192, value)])?,
+            &bad_slab(4, value),
+        );
     }
     Ok(())
 }
@@ -114,16 +122,18 @@ fn root_words(rt: HostRuntime) -> Result<(), Fail> {
         131073,
     ];
     for word in strays {
-        assert_eq!(rt;
-            answer(rt.alloc(), &[(6160, 33556481), (2054, word)])?,
-            stray_root(6, word)
+        same(
+            &rt,
+            &answer(rt.alloc(), &[(6160, 33556481), (2054, word)])?,
+            &stray_root(6, word),
         );
     }
     // The large extent, the block behind the first, and the last one.
     for word in [131072, small_word(67696, 6), small_word(130864, 6)] {
-        assert_eq!(rt;
-            answer(rt.alloc(), &[(6160, 33556481), (2054, word)])?,
-            None
+        same(
+            &rt,
+            &answer(rt.alloc(), &[(6160, 33556481), (2054, word)])?,
+            &None,
         );
     }
     Ok(())
@@ -144,7 +154,7 @@ fn shared_blocks(rt: HostRuntime) -> Result<(), Fail> {
         (&[(6160, 33556481), (2049, 131072), (2143, 131072)], 1, 95),
     ];
     for (changes, first, second) in rows {
-        assert_eq!(rt; answer(rt.alloc(), changes)?, shared(first, second));
+        same(&rt, &answer(rt.alloc(), changes)?, &shared(first, second));
     }
     Ok(())
 }
@@ -152,15 +162,21 @@ fn shared_blocks(rt: HostRuntime) -> Result<(), Fail> {
 // Two large extents that no root names, at 8 and 10. Then a second slab, at granule 8, and a root whose block lies in neither.
 #[test]
 fn loose_things(rt: HostRuntime) -> Result<(), Fail> {
-    assert_eq!(rt; answer(rt.alloc(), &[(6160, 33556481)])?, None);
-    assert_eq!(rt;
-        answer(rt.alloc(), &[(6160, 33556481), (6168, 33556993)])?,
-        too_many_loose(2, 0)
+    same(&rt, &answer(rt.alloc(), &[(6160, 33556481)])?, &None);
+    same(
+        &rt,
+        &answer(rt.alloc(), &[(6160, 33556481), (6168, 33556993)])?,
+        &too_many_loose(2, 0),
     );
-    assert_eq!(rt; answer(rt.alloc(), &[(6160, 2050), (16384, 1)])?, None);
-    assert_eq!(rt;
-        answer(rt.alloc(), &[(6160, 2050), (16384, 1), (2053, 0)])?,
-        too_many_loose(0, 2)
+    same(
+        &rt,
+        &answer(rt.alloc(), &[(6160, 2050), (16384, 1)])?,
+        &None,
+    );
+    same(
+        &rt,
+        &answer(rt.alloc(), &[(6160, 2050), (16384, 1), (2053, 0)])?,
+        &too_many_loose(0, 2),
     );
     Ok(())
 }

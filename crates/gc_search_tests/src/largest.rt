@@ -2,6 +2,7 @@
 ghost use Rattle.std.specs.Prelude.{◌<◌};
 
 use crate::answers::{answer_of, bad_slab, shared, stray_root};
+use crate::values::same;
 use check_tests::{Put, blank, put};
 use pmem_lines::OutOfMemory;
 use std::alloc::Global;
@@ -67,15 +68,16 @@ fn full_arena(alloc: Global) -> Result<Vec<u64>, OutOfMemory> {
 #[test]
 fn the_last_of_all(rt: HostRuntime) -> Result<(), Fail> {
     let mut words = full_arena(rt.alloc())?;
-    assert_eq!(rt; answer_of(rt.alloc(), &words)?, None);
+    same(&rt, &answer_of(rt.alloc(), &words)?, &None);
     put(&mut words, &[(6143, 4295952384)]);
-    assert_eq!(rt; answer_of(rt.alloc(), &words)?, shared(4094, 4095));
+    same(&rt, &answer_of(rt.alloc(), &words)?, &shared(4094, 4095));
     put(&mut words, &[(6143, 0x0001_0100_0000)]);
-    assert_eq!(rt;
-        answer_of(rt.alloc(), &words)?,
-        stray_root(4095, 0x0001_0100_0000)
+    same(
+        &rt,
+        &answer_of(rt.alloc(), &words)?,
+        &stray_root(4095, 0x0001_0100_0000),
     );
     put(&mut words, &[(8192 * 255, 2)]);
-    assert_eq!(rt; answer_of(rt.alloc(), &words)?, bad_slab(1020, 2));
+    same(&rt, &answer_of(rt.alloc(), &words)?, &bad_slab(1020, 2));
     Ok(())
 }

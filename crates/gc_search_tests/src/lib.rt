@@ -20,5 +20,7 @@ mod largest;
 mod order;
 #[cfg(test)]
 mod sound;
+#[cfg(test)]
+mod values;
 
 pub use images::{ONE_BLOCK, small_word};

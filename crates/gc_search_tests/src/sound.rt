@@ -1,6 +1,7 @@
 // Sound images in which slabs have blocks of several classes, and what was read of them.
 use crate::answers::{answer, answer_of, shared};
 use crate::images::{ONE_BLOCK, small_word};
+use crate::values::same;
 use check_tests::{Put, image, put};
 use gc_search::GcSearch;
 use std::test::Fail;
@@ -15,7 +16,7 @@ fn two_old_classes(rt: HostRuntime) -> Result<(), Fail> {
         (8200, 77),
         (64, 2),
     ];
-    assert_eq!(rt; answer(rt.alloc(), &changes)?, None);
+    same(&rt, &answer(rt.alloc(), &changes)?, &None);
     Ok(())
 }
 
@@ -27,7 +28,7 @@ fn many_old_blocks(rt: HostRuntime) -> Result<(), Fail> {
         let word = small_word(67776 + 16 * u64::from(k), 0);
         put(&mut words, &[(2100 + k as usize, word)]);
     }
-    assert_eq!(rt; answer_of(rt.alloc(), &words)?, None);
+    same(&rt, &answer_of(rt.alloc(), &words)?, &None);
     Ok(())
 }
 
@@ -38,7 +39,7 @@ fn all_roots(rt: HostRuntime) -> Result<(), Fail> {
     for root in 0..4096usize {
         put(&mut words, &[(2048 + root, 30064838656)]);
     }
-    assert_eq!(rt; answer_of(rt.alloc(), &words)?, shared(0, 1));
+    same(&rt, &answer_of(rt.alloc(), &words)?, &shared(0, 1));
     Ok(())
 }
 
@@ -47,15 +48,15 @@ fn what_was_read(rt: HostRuntime) -> Result<(), Fail> {
     let changes: [Put; 3] = [(6160, 33556481), (6168, 33556993), (2054, 131072)];
     let words = image(rt.alloc(), &ONE_BLOCK, &changes)?;
     let search = GcSearch::new(rt.alloc(), &words)?;
-    assert_eq!(rt; search.granules(), 16);
+    same(&rt, &search.granules(), &16);
     match search.judge(&words) {
         Ok(image) => {
             let starts = image.names.starts();
             let granules = image.names.granules();
-            assert_eq!(rt; starts.len(), 16);
+            same(&rt, &starts.len(), &16);
             assert!(rt; starts[8] && granules[8] && granules[4]);
             assert!(rt; !starts[4] && !starts[10] && !granules[10]);
-            assert_eq!(rt; image.log.granules(), 16);
+            same(&rt, &image.log.granules(), &16);
         }
         Err(_defect) => {
             assert!(rt; false);

@@ -35,12 +35,14 @@ fn fills(arena: &mut GcArena<SimPmem>) -> bool {
 }
 
 // The next entry has the log rewritten, into one chunk.
+fn rewrites(arena: &mut GcArena<SimPmem>) -> bool {
+    fills(arena) && gives(arena, 101, 20000, 589824, 32768) && counts(arena, 145)
+}
+
 #[test]
 fn a_log_is_rewritten(rt: HostRuntime) -> Result<(), Fail> {
     let mut arena = arena_of(rt.alloc(), 64)?;
-    let right = fills(&mut arena)
-        && gives(&mut arena, 101, 20000, 589824, 32768)
-        && counts(&arena, 145);
+    let right = rewrites(&mut arena);
     assert!(&rt; right);
     Ok(())
 }

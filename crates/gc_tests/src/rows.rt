@@ -107,10 +107,14 @@ fn all_go(arena: &mut GcArena<SimPmem>) -> bool {
         && had(arena, &two(word(16384, 0), word(49408, 3 + (4 << 8))))
 }
 
+fn come_and_go(arena: &mut GcArena<SimPmem>) -> bool {
+    morphed(arena) && all_go(arena)
+}
+
 #[test]
 fn blocks_go(rt: HostRuntime) -> Result<(), Fail> {
     let mut arena = new_arena(rt.alloc())?;
-    let right = morphed(&mut arena) && all_go(&mut arena);
+    let right = come_and_go(&mut arena);
     assert!(&rt; right);
     Ok(())
 }
@@ -129,10 +133,14 @@ fn refusals(arena: &mut GcArena<SimPmem>) -> bool {
         && writes_none(arena, 7, 4096, BlockRefusal::OutOfRange)
 }
 
+fn refused_beside_a_block(arena: &mut GcArena<SimPmem>) -> bool {
+    gives(arena, 7, 20000, 65536, 32768) && refusals(arena)
+}
+
 #[test]
 fn nothing_is_done(rt: HostRuntime) -> Result<(), Fail> {
     let mut arena = new_arena(rt.alloc())?;
-    let right = gives(&mut arena, 7, 20000, 65536, 32768) && refusals(&mut arena);
+    let right = refused_beside_a_block(&mut arena);
     assert!(&rt; right);
     Ok(())
 }
@@ -158,10 +166,14 @@ fn written(arena: &mut GcArena<SimPmem>) -> bool {
         && reads(arena, 7, 2, 4)
 }
 
+fn given_and_written(arena: &mut GcArena<SimPmem>) -> bool {
+    gives(arena, 7, 20000, 65536, 32768) && written(arena)
+}
+
 #[test]
 fn words_of_a_block(rt: HostRuntime) -> Result<(), Fail> {
     let mut arena = new_arena(rt.alloc())?;
-    let right = gives(&mut arena, 7, 20000, 65536, 32768) && written(&mut arena);
+    let right = given_and_written(&mut arena);
     assert!(&rt; right);
     Ok(())
 }

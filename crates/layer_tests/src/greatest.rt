@@ -1,12 +1,14 @@
 // Numbers by root, and the greatest of them.
 ghost use Rattle.std.specs.Prelude.{◌≡◌, ◌<◌, ◌≤◌, length};
 
+use crate::values::same;
 use dict_index::Numbers;
 use pmem_lines::OutOfMemory;
 use rand_core::SeedableRng;
 use rand_core::utils::NextWord;
 use rand_xoshiro::SplitMix64;
 use std::alloc::Global;
+use std::process::Abort;
 use std::test::Fail;
 
 // Over three groups of roots.
@@ -33,24 +35,37 @@ fn greatest_without(numbers: &mut Numbers, root: u32) -> u64
 #[test]
 fn numbers_by_hand(rt: HostRuntime) -> Result<(), Fail> {
     let mut numbers = Numbers::with_room(rt.alloc(), ROOTS as u32)?;
-    assert_eq!(rt; (numbers.greatest(), numbers.get(149)), (0, 0));
-    assert_eq!(rt; greatest_with(&mut numbers, 70, 5), 5);
-    assert_eq!(rt; greatest_with(&mut numbers, 71, 3), 5);
-    assert_eq!(rt; greatest_with(&mut numbers, 149, u64::MAX), u64::MAX);
-    // It falls to that of another group, in its group, and to none.
-    assert_eq!(rt; greatest_without(&mut numbers, 149), 5);
-    assert_eq!(rt; greatest_with(&mut numbers, 70, 2), 3);
-    assert_eq!(rt; (numbers.get(70), numbers.get(71)), (2, 3));
-    assert_eq!(rt; greatest_without(&mut numbers, 71), 2);
-    assert_eq!(rt; greatest_without(&mut numbers, 0), 2);
-    assert_eq!(rt; greatest_without(&mut numbers, 70), 0);
+    rise_and_fall(&rt, &mut numbers);
     Ok(())
+}
+
+fn rise_and_fall<R: Abort>(rt: &R, numbers: &mut Numbers)
+    requires { length numbers.old ≡ 150 }
+{
+    same(rt, &(numbers.greatest(), numbers.get(149)), &(0, 0));
+    same(rt, &greatest_with(numbers, 70, 5), &5);
+    same(rt, &greatest_with(numbers, 71, 3), &5);
+    same(rt, &greatest_with(numbers, 149, u64::MAX), &u64::MAX);
+    // It falls to that of another group, in its group, and to none.
+    same(rt, &greatest_without(numbers, 149), &5);
+    same(rt, &greatest_with(numbers, 70, 2), &3);
+    same(rt, &(numbers.get(70), numbers.get(71)), &(2, 3));
+    same(rt, &greatest_without(numbers, 71), &2);
+    same(rt, &greatest_without(numbers, 0), &2);
+    same(rt, &greatest_without(numbers, 70), &0);
 }
 
 // Beside a list of the numbers.
 #[test]
 fn numbers_as_in_a_list(rt: HostRuntime) -> Result<(), Fail> {
     let mut numbers = Numbers::with_room(rt.alloc(), ROOTS as u32)?;
+    change_as_in_a_list(&rt, &mut numbers);
+    Ok(())
+}
+
+fn change_as_in_a_list<R: Abort>(rt: &R, numbers: &mut Numbers)
+    requires { length numbers.old ≡ 150 }
+{
     let mut list = [0u64; ROOTS];
     let mut random = SplitMix64::from_seed([11; 8]);
     for _ in 0..2000u32 {
@@ -59,7 +74,6 @@ fn numbers_as_in_a_list(rt: HostRuntime) -> Result<(), Fail> {
         let number = (random.next_word() % 900).saturating_sub(300);
         list[root as usize] = number;
         let greatest = list.iter().max();
-        assert_eq!(rt; Some(&greatest_with(&mut numbers, root, number)), greatest);
+        same(rt, &Some(&greatest_with(numbers, root, number)), &greatest);
     }
-    Ok(())
 }

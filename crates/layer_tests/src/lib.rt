@@ -17,3 +17,5 @@ mod memory;
 mod numbers;
 #[cfg(test)]
 mod texts;
+#[cfg(test)]
+mod values;

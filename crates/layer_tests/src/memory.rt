@@ -1,12 +1,14 @@
 // Images of a short list of events, by hand and by counting.
-ghost use Rattle.std.specs.Prelude.{◌≡◌, IfOk, length};
+ghost use Rattle.std.specs.Prelude.{◌≡◌, ◌≤◌, IfOk, length};
 ghost use Rattle.pmem_lines.specs.Pmem.{words_of};
 
+use crate::values::same;
 use pmem_lines::{Event, OutOfMemory, Pmem, SimPmem};
 use rand_core::SeedableRng;
 use rand_core::utils::NextWord;
 use rand_xoshiro::SplitMix64;
-use std::alloc::Global;
+use std::alloc::{AllocError, Global};
+use std::process::Abort;
 use std::test::Fail;
 
 // A line's stores: how many there are, and how many stand before the last flush of it that a fence follows.
@@ -72,9 +74,17 @@ fn six_events(alloc: Global, base: &[u64; 24]) -> Result<SimPmem, OutOfMemory>
 #[test]
 fn images_by_hand(rt: HostRuntime) -> Result<(), Fail> {
     let device = six_events(rt.alloc(), &[0; 24])?;
-    assert_eq!(rt;
-        (device.load(0), device.load(8), device.load(64)),
-        (4, 2, 3)
+    leaves_these_images(&rt, rt.alloc(), &device)
+}
+
+fn leaves_these_images<R: Abort>(rt: &R, alloc: Global, device: &SimPmem) -> Result<(), Fail>
+    requires size { length (words_of device.now) ≡ 24 }
+    requires count { length device.now.events ≡ 6 }
+{
+    same(
+        rt,
+        &(device.load(0), device.load(8), device.load(64)),
+        &(4, 2, 3),
     );
     let table = [
         (0, 0, 0, 0),
@@ -87,7 +97,7 @@ fn images_by_hand(rt: HostRuntime) -> Result<(), Fail> {
     ];
     for (k, first, second, eighth) in table {
         let mut picks = SplitMix64::from_seed([0; 8]);
-        let words = device.image(rt.alloc(), k, &mut picks)?;
+        let words = device.image(alloc, k, &mut picks)?;
         assert_eq!(rt;
             (words[0], words[1], words[8]),
             (first, second, eighth),
@@ -102,6 +112,20 @@ fn images_by_hand(rt: HostRuntime) -> Result<(), Fail> {
 fn images_by_counting(rt: HostRuntime) -> Result<(), Fail> {
     let base = [9u64; 24];
     let mut device = six_events(rt.alloc(), &base)?;
+    leaves_counted_images(&rt, rt.alloc(), &mut device, base)
+}
+
+// Six more events are done, and the images after each number of events are compared.
+fn leaves_counted_images<R: Abort>(
+    rt: &R,
+    alloc: Global,
+    device: &mut SimPmem,
+    base: [u64; 24],
+) -> Result<(), Fail>
+    requires size { length (words_of device.old) ≡ 24 }
+    requires count { length device.old.events ≡ 6 }
+    requires room { device.old.room ≡ 12 }
+{
     device.flush(1);
     device.store(64, 5);
     device.store(128, 6);
@@ -109,41 +133,113 @@ fn images_by_counting(rt: HostRuntime) -> Result<(), Fail> {
     device.fence();
     device.flush(0);
     for k in 0..=device.event_count() {
-        let mut first = Vec::new(rt.alloc());
-        for i in 0..k {
-            first.push(device.event(i))?;
-        }
-        for seed in 0..6u64 {
-            let mut picks = SplitMix64::from_seed(seed.to_le_bytes());
-            let words = device.image(rt.alloc(), k, &mut picks)?;
-            let mut drawn = SplitMix64::from_seed(seed.to_le_bytes());
-            let mut want = base;
-            for line in 0..3 {
-                let (all, done) = counts(&first, line);
-                let mut kept = u64::from(done);
-                if done < all {
-                    kept += drawn.next_word() % (u64::from(all - done) + 1);
-                }
-                store_first(&mut want, &first, line, kept);
-            }
-            assert_eq!(rt; words.as_slice(), want.as_slice(), "seed {seed}, after {k}");
-        }
+        leaves_those_after(rt, alloc, device, base, k)?;
     }
     Ok(())
+}
+
+// The images after the first so many events.
+fn leaves_those_after<R: Abort>(
+    rt: &R,
+    alloc: Global,
+    device: &SimPmem,
+    base: [u64; 24],
+    k: u32,
+) -> Result<(), Fail>
+    requires { k ≤ length device.now.events }
+{
+    let first = first_events(alloc, device, k)?;
+    leaves_those_of(rt, alloc, device, base, k, &first)
+}
+
+// The first so many events.
+fn first_events(alloc: Global, device: &SimPmem, k: u32) -> Result<Vec<Event>, AllocError>
+    requires { k ≤ length device.now.events }
+{
+    let mut first = Vec::new(alloc);
+    for i in 0..k {
+        first.push(device.event(i))?;
+    }
+    Ok(first)
+}
+
+// The images after the first k events, which are these.
+fn leaves_those_of<R: Abort>(
+    rt: &R,
+    alloc: Global,
+    device: &SimPmem,
+    base: [u64; 24],
+    k: u32,
+    first: &[Event],
+) -> Result<(), Fail>
+    requires { k ≤ length device.now.events }
+{
+    for seed in 0..6u64 {
+        let mut picks = SplitMix64::from_seed(seed.to_le_bytes());
+        let words = device.image(alloc, k, &mut picks)?;
+        let want = counted_image(base, first, seed);
+        assert_eq!(rt; words.as_slice(), want.as_slice(), "seed {seed}, after {k}");
+    }
+    Ok(())
+}
+
+// The image by counting.
+fn counted_image(base: [u64; 24], first: &[Event], seed: u64) -> [u64; 24] {
+    let mut drawn = SplitMix64::from_seed(seed.to_le_bytes());
+    let mut want = base;
+    for line in 0..3 {
+        let (all, done) = counts(first, line);
+        let mut kept = u64::from(done);
+        if done < all {
+            kept += drawn.next_word() % (u64::from(all - done) + 1);
+        }
+        store_first(&mut want, first, line, kept);
+    }
+    want
 }
 
 // The largest memory of zeros, and one of as many words as the largest arena has: its last word, before and after a
 // crash that keeps no store of it.
 #[test]
 fn largest_memories(rt: HostRuntime) -> Result<(), Fail> {
-    let zeroed = SimPmem::zeroed(rt.alloc(), 1_048_576, 2048)?;
-    assert_eq!(rt; (zeroed.size_words(), zeroed.room()), (8_388_608, 2048));
-    assert_eq!(rt; zeroed.load(67_108_856), 0);
-    let base = vec![in rt.alloc(); 9u64; 2_097_152]?;
-    let device = SimPmem::from_image(rt.alloc(), &base, 2048)?;
-    assert_eq!(rt; device.load(16_777_208), 9);
+    has_the_most_zeros(&rt, rt.alloc())?;
+    has_the_most_words(&rt, rt.alloc())
+}
+
+fn has_the_most_zeros<R: Abort>(rt: &R, alloc: Global) -> Result<(), Fail> {
+    let zeroed = SimPmem::zeroed(alloc, 1_048_576, 2048)?;
+    same(
+        rt,
+        &(zeroed.size_words(), zeroed.room(), zeroed.load(67_108_856)),
+        &(8_388_608, 2048, 0),
+    );
+    Ok(())
+}
+
+fn has_the_most_words<R: Abort>(rt: &R, alloc: Global) -> Result<(), Fail> {
+    let base = vec![in alloc; 9u64; 2_097_152]?;
+    is_made_of(rt, alloc, &base)
+}
+
+// A memory with these words has them before and after a crash.
+fn is_made_of<R: Abort>(rt: &R, alloc: Global, base: &[u64]) -> Result<(), Fail>
+    requires { length base.now ≡ 2097152 }
+{
+    let device = SimPmem::from_image(alloc, base, 2048)?;
+    keeps_its_words(rt, alloc, &device, base)
+}
+
+fn keeps_its_words<R: Abort>(
+    rt: &R,
+    alloc: Global,
+    device: &SimPmem,
+    base: &[u64],
+) -> Result<(), Fail>
+    requires { length (words_of device.now) ≡ 2097152 }
+{
+    same(rt, &device.load(16_777_208), &9);
     let mut picks = SplitMix64::from_seed([0; 8]);
-    let words = device.image(rt.alloc(), 0, &mut picks)?;
-    assert!(rt; words == base);
+    let words = device.image(alloc, 0, &mut picks)?;
+    assert!(rt; words.as_slice() == base);
     Ok(())
 }

@@ -1,6 +1,7 @@
 // What becomes of images that are migrated.
+use crate::values::same;
 use arena_core::Arena;
-use check_tests::{Base, Put, image};
+use check_tests::{Base, Put, blank, image, put};
 use heap_model::Block;
 use image_check::{CheckFault, check_arena};
 use image_defects::Summary;
@@ -66,6 +67,19 @@ pub fn outcome_of(alloc: Global, words: &[u64]) -> Result<Became, OutOfMemory> {
     }
 }
 
+/// What became of an image.
+pub fn image_outcome(alloc: Global, base: &Base, changes: &[Put]) -> Result<Became, OutOfMemory> {
+    let words = image(alloc, base, changes)?;
+    outcome_of(alloc, &words)
+}
+
+/// What became of so many words, of which these are not 0, as far as they are among them.
+pub fn outcome_with(alloc: Global, size: usize, puts: &[Put]) -> Result<Became, OutOfMemory> {
+    let mut words = blank(alloc, size)?;
+    put(&mut words, puts);
+    outcome_of(alloc, &words)
+}
+
 // The arena that is recovered from words. `None` where they are not sound.
 fn arena_of(alloc: Global, words: &[u64]) -> Result<Option<Arena<SimPmem>>, OutOfMemory> {
     if words.is_empty() || words.len() > 8_388_608 || words.len() % 8 != 0 {
@@ -119,14 +133,19 @@ fn holds(arena: &Arena<SimPmem>, blocks: &[Held]) -> bool {
     true
 }
 
-// By how many events the arena of these words is recovered, and whether it has these blocks.
+// By how many events an arena was recovered, and whether it has these blocks.
+fn recovered_by(arena: &Arena<SimPmem>, blocks: &[Held]) -> (u32, bool) {
+    (arena.pmem().event_count(), holds(arena, blocks))
+}
+
+// The same of the arena of these words. `None` where they are not sound.
 fn recovered(
     alloc: Global,
     words: &[u64],
     blocks: &[Held],
 ) -> Result<Option<(u32, bool)>, OutOfMemory> {
     match arena_of(alloc, words)? {
-        Some(arena) => Ok(Some((arena.pmem().event_count(), holds(&arena, blocks)))),
+        Some(arena) => Ok(Some(recovered_by(&arena, blocks))),
         None => Ok(None),
     }
 }
@@ -142,13 +161,31 @@ fn become_exact<R: Abort>(
 ) -> Result<(), Fail> {
     let [large, slabs] = counts;
     let wanted = exact(0, 1, 25, large, slabs, blocks.len().min(ROOTS) as u32);
-    assert_eq!(rt; outcome_of(alloc, words)?, wanted);
-    let Some(new) = migrated_words(alloc, words)? else {
-        panic!(rt; "not migrated");
-    };
-    assert_eq!(rt; outcome_of(alloc, &new)?, Became::Newer { version: 2 });
-    assert_eq!(rt; recovered(alloc, &new, blocks)?, Some((0, true)));
+    same(rt, &outcome_of(alloc, words)?, &wanted);
+    match migrated_words(alloc, words)? {
+        Some(new) => are_exact(rt, alloc, &new, blocks),
+        None => panic!(rt; "not migrated"),
+    }
+}
+
+// New words are not migrated again, and are recovered with these blocks by no event.
+fn are_exact<R: Abort>(rt: &R, alloc: Global, new: &[u64], blocks: &[Held]) -> Result<(), Fail> {
+    same(rt, &outcome_of(alloc, new)?, &Became::Newer { version: 2 });
+    same(rt, &recovered(alloc, new, blocks)?, &Some((0, true)));
     Ok(())
+}
+
+// The same of the words of an image.
+fn image_becomes<R: Abort>(
+    rt: &R,
+    alloc: Global,
+    base: &Base,
+    changes: &[Put],
+    counts: [u32; 2],
+    blocks: &[Held],
+) -> Result<(), Fail> {
+    let words = image(alloc, base, changes)?;
+    become_exact(rt, alloc, &words, counts, blocks)
 }
 
 /// The arena that is recovered from the migration of words. `None` where there is none.
@@ -162,8 +199,7 @@ pub fn migrated_arena(alloc: Global, words: &[u64]) -> Result<Option<Arena<SimPm
 /// The image of each row, changes over an arena of 16 granules, is migrated and has what the row says.
 pub fn all_become<R: Abort>(rt: &R, alloc: Global, base: &Base, rows: &[Row]) -> Result<(), Fail> {
     for (changes, counts, blocks) in rows {
-        let words = image(alloc, base, changes)?;
-        become_exact(rt, alloc, &words, *counts, blocks)?;
+        image_becomes(rt, alloc, base, changes, *counts, blocks)?;
     }
     Ok(())
 }

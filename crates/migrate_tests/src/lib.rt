@@ -18,3 +18,5 @@ mod loose;
 mod refused;
 #[cfg(test)]
 mod sizes;
+#[cfg(test)]
+mod values;

@@ -1,6 +1,7 @@
 // What is not migrated, and why.
-use crate::images::{Became, outcome_of};
-use check_tests::{ONE_BLOCK, Put, SECOND_VERSION, blank, image, put};
+use crate::images::{Became, image_outcome, outcome_with};
+use crate::values::same;
+use check_tests::{ONE_BLOCK, Put, SECOND_VERSION};
 use pool_layout::Defect;
 use std::test::Fail;
 
@@ -19,11 +20,10 @@ fn lengths(rt: HostRuntime) -> Result<(), Fail> {
         (32769, 262_152, 262_144),
     ];
     for (size, have, need) in rows {
-        let mut words = blank(rt.alloc(), size)?;
-        put(&mut words, ONE_BLOCK.words);
-        assert_eq!(rt;
-            outcome_of(rt.alloc(), &words)?,
-            Became::Refused(Defect::BadLength { have, need })
+        same(
+            &rt,
+            &outcome_with(rt.alloc(), size, ONE_BLOCK.words)?,
+            &Became::Refused(Defect::BadLength { have, need }),
         );
     }
     Ok(())
@@ -58,8 +58,11 @@ fn defects(rt: HostRuntime) -> Result<(), Fail> {
         (&[(2054, 67600), (2, 0)], Defect::BadDirectory { value: 0 }),
     ];
     for (changes, defect) in rows {
-        let words = image(rt.alloc(), &ONE_BLOCK, changes)?;
-        assert_eq!(rt; outcome_of(rt.alloc(), &words)?, Became::Refused(defect));
+        same(
+            &rt,
+            &image_outcome(rt.alloc(), &ONE_BLOCK, changes)?,
+            &Became::Refused(defect),
+        );
     }
     Ok(())
 }
@@ -71,13 +74,18 @@ fn newer(rt: HostRuntime) -> Result<(), Fail> {
     let wanted = Became::Newer { version: 2 };
     let rows: [&[Put]; 3] = [&[], &[(18431, 215_041)], &[(2, 0)]];
     for changes in rows {
-        let words = image(rt.alloc(), &SECOND_VERSION, changes)?;
-        assert_eq!(rt; outcome_of(rt.alloc(), &words)?, wanted);
+        same(
+            &rt,
+            &image_outcome(rt.alloc(), &SECOND_VERSION, changes)?,
+            &wanted,
+        );
     }
     for size in [8, 51199, 51201] {
-        let mut words = blank(rt.alloc(), size)?;
-        put(&mut words, SECOND_VERSION.words);
-        assert_eq!(rt; outcome_of(rt.alloc(), &words)?, wanted);
+        same(
+            &rt,
+            &outcome_with(rt.alloc(), size, SECOND_VERSION.words)?,
+            &wanted,
+        );
     }
     Ok(())
 }

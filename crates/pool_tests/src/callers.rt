@@ -16,7 +16,7 @@ use std::sync::Wait;
 
 /// A pass, and how many calls it may make at most.
 #[derive(Drop)]
-pub struct Caller {
+pub(crate) struct Caller {
     pass: Pass,
     left: u32,
 }
@@ -31,14 +31,18 @@ impl Model for Caller {
 
 /// A call that may be tried.
 #[derive(Clone, Copy)]
-pub enum TriedCall {
+pub(crate) enum TriedCall {
     Malloc { root: u32, size: u64 },
     Free { root: u32 },
 }
 
 /// An arena of 16 granules over new memory, as number `number` of so many.
 #[tactic(auto, using(arena_core::proofs::Readiness::first_room, arena_core::proofs::Readiness::first_most))]
-pub fn empty_arena(alloc: Global, number: u32, arenas: u32) -> Result<Arena<SimPmem>, OutOfMemory>
+pub(crate) fn empty_arena(
+    alloc: Global,
+    number: u32,
+    arenas: u32,
+) -> Result<Arena<SimPmem>, OutOfMemory>
     requires { (number < arenas) × (arenas ≤ 16) }
 {
     let room = ArenaRoom::new(alloc, 16)?;
@@ -47,7 +51,7 @@ pub fn empty_arena(alloc: Global, number: u32, arenas: u32) -> Result<Arena<SimP
 }
 
 /// A lock over an empty arena with its journal, and its two seats.
-pub fn arena_lock_of_two(
+pub(crate) fn arena_lock_of_two(
     alloc: Global,
 ) -> Result<(ArenaLock<PoolArena<SimPmem>>, LockSeat, LockSeat), OutOfMemory>
     ensures one { IfOk result (λ t. t.1 ≡ seat_at t.0.id t.0.opening [] (0 ∷ []) 0 (2 ^ 57)) }
@@ -57,7 +61,7 @@ pub fn arena_lock_of_two(
 }
 
 /// A pool over these arenas, and its two passes.
-pub fn pool_of<P: Pmem + Drop>(
+pub(crate) fn pool_of<P: Pmem + Drop>(
     alloc: Global,
     arenas: Vec<Arena<P>>,
 ) -> Result<(SharedPool<P>, Caller, Caller), OutOfMemory>
@@ -90,7 +94,7 @@ pub fn pool_of<P: Pmem + Drop>(
 }
 
 /// Ends the pool.
-pub fn close<P: Pmem + Drop>(
+pub(crate) fn close<P: Pmem + Drop>(
     alloc: Global,
     pool: SharedPool<P>,
     zero: Caller,
@@ -107,8 +111,17 @@ pub fn close<P: Pmem + Drop>(
     }
 }
 
+// The numbers of passes.
+fn numbers_of(alloc: Global, passes: &[Pass]) -> Result<Vec<u32>, OutOfMemory> {
+    let mut numbers = Vec::new(alloc);
+    for pass in passes {
+        numbers.push(pass.number())?;
+    }
+    Ok(numbers)
+}
+
 /// Puts arenas into a pool with so many passes, and ends it at once. It gives the numbers of the passes, and the arenas.
-pub fn start_and_close<P: Pmem + Drop>(
+pub(crate) fn start_and_close<P: Pmem + Drop>(
     alloc: Global,
     arenas: Vec<Arena<P>>,
     seats: u32,
@@ -119,10 +132,7 @@ pub fn start_and_close<P: Pmem + Drop>(
         Ok(started) => started,
         Err((error, _arenas)) => return Err(error),
     };
-    let mut numbers = Vec::new(alloc);
-    for pass in &passes {
-        numbers.push(pass.number())?;
-    }
+    let numbers = numbers_of(alloc, &passes)?;
     match pool.close(alloc, passes) {
         Ok(closed) => Ok((numbers, closed)),
         Err((error, _pool, _passes)) => Err(error),
@@ -131,7 +141,7 @@ pub fn start_and_close<P: Pmem + Drop>(
 
 impl Caller {
     /// How many entries of an arena's journal were seen.
-    pub fn seen<P: Pmem>(&self, pool: &SharedPool<P>, arena: u32) -> u64
+    pub(crate) fn seen<P: Pmem>(&self, pool: &SharedPool<P>, arena: u32) -> u64
         requires can { CanCall pool.now self.now }
         requires arena { arena < length pool.now.locks }
     {
@@ -139,7 +149,7 @@ impl Caller {
     }
 
     /// A call at an arena by this pass, in its turn.
-    pub fn call<R: Wait, P: Pmem>(
+    pub(crate) fn call<R: Wait, P: Pmem>(
         &mut self,
         rt: &R,
         alloc: Global,
@@ -174,7 +184,7 @@ impl Caller {
     }
 
     /// A call at an arena by this pass, if nobody else has the turn.
-    pub fn try_call<P: Pmem>(
+    pub(crate) fn try_call<P: Pmem>(
         &mut self,
         alloc: Global,
         pool: &SharedPool<P>,
@@ -198,7 +208,7 @@ impl Caller {
     }
 
     /// `published` by this pass.
-    pub fn published<P: Pmem>(&mut self, pool: &SharedPool<P>, arena: u32) -> u64
+    pub(crate) fn published<P: Pmem>(&mut self, pool: &SharedPool<P>, arena: u32) -> u64
         requires can { CanCall pool.now self.old }
         requires arena { arena < length pool.now.locks }
         ensures can { CanCall pool.now self.new }

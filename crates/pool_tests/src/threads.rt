@@ -13,7 +13,7 @@ use std::thread::{Threads, join_mut};
 
 /// The first pass asks for a block of arena 0 on a thread of its own, and the second tries one of arena 1 on another, from
 /// where the first one's store has stopped until it lets it go on.
-pub fn try_beside_a_store<R: Threads + Wait + Sync, P: Pmem + Drop + Send>(
+pub(crate) fn try_beside_a_store<R: Threads + Wait + Sync, P: Pmem + Drop + Send>(
     rt: &R,
     alloc: Global,
     pool: &SharedPool<P>,

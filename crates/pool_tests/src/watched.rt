@@ -11,7 +11,7 @@ const LOOKS: u32 = 100_000_000;
 
 /// What a memory and the threads of a test tell each other.
 #[derive(Drop)]
-pub struct Flags {
+pub(crate) struct Flags {
     armed: AtomicU64,
     stops: AtomicU64,
     goes_on: AtomicU64,
@@ -19,7 +19,7 @@ pub struct Flags {
 }
 
 impl Flags {
-    pub fn new() -> Flags {
+    pub(crate) fn new() -> Flags {
         Flags {
             armed: AtomicU64::new(0),
             stops: AtomicU64::new(0),
@@ -29,22 +29,22 @@ impl Flags {
     }
 
     /// The next store stops.
-    pub fn arm(&self) {
+    pub(crate) fn arm(&self) {
         self.armed.store(1, Ordering::SeqCst);
     }
 
     /// Waits until the store has stopped.
-    pub fn await_stop(&self) {
+    pub(crate) fn await_stop(&self) {
         self.await_flag(&self.stops);
     }
 
     /// Lets the store go on.
-    pub fn let_go(&self) {
+    pub(crate) fn let_go(&self) {
         self.goes_on.store(1, Ordering::SeqCst);
     }
 
     /// Nobody waited in vain.
-    pub fn all_met(&self) -> bool {
+    pub(crate) fn all_met(&self) -> bool {
         self.gave_up.load(Ordering::SeqCst) == 0
     }
 
@@ -68,13 +68,13 @@ impl Flags {
 
 /// Simulated memory with such flags.
 #[derive(Drop)]
-pub struct Watched {
+pub(crate) struct Watched {
     memory: SimPmem,
     flags: Arc<Flags>,
 }
 
 impl Watched {
-    pub fn new(memory: SimPmem, flags: Arc<Flags>) -> Watched
+    pub(crate) fn new(memory: SimPmem, flags: Arc<Flags>) -> Watched
         ensures { result.memory ≡ memory }
     {
         Watched { memory, flags }

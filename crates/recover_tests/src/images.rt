@@ -1,6 +1,7 @@
 // What becomes of images.
 ghost use Rattle.std.specs.Prelude.{◌≡◌, ◌≤◌, ◌%◌, length};
 
+use crate::values::same;
 use arena_core::{Arena, Freed, Moved, Placed};
 use check_tests::{Base, Put, image, put};
 use heap_model::Block;
@@ -36,36 +37,69 @@ pub fn recovered(
     changes: &[Put],
     after: &[Put],
 ) -> Result<Became, OutOfMemory> {
+    let wanted = image_under(alloc, base, changes, after)?;
+    compared(alloc, base, changes, &wanted)
+}
+
+// The words of three rows, each over the one before.
+fn image_under(
+    alloc: Global,
+    base: &Base,
+    changes: &[Put],
+    after: &[Put],
+) -> Result<Vec<u64>, OutOfMemory> {
+    let mut words = image(alloc, base, changes)?;
+    put(&mut words, after);
+    Ok(words)
+}
+
+// The image of the words of two rows is recovered, and its words are compared with these.
+fn compared(
+    alloc: Global,
+    base: &Base,
+    changes: &[Put],
+    wanted: &[u64],
+) -> Result<Became, OutOfMemory> {
     let before = image(alloc, base, changes)?;
-    let mut wanted = image(alloc, base, changes)?;
-    put(&mut wanted, after);
-    let device = SimPmem::from_image(alloc, &before, ROOM)?;
+    recovery_of(alloc, &before, wanted)
+}
+
+// What becomes of words, where these are wanted.
+fn recovery_of(alloc: Global, before: &[u64], wanted: &[u64]) -> Result<Became, OutOfMemory>
+    requires whole { length before.now % 8 ≡ 0 }
+    requires some { 8 ≤ length before.now }
+    requires few { length before.now ≤ 8388608 }
+{
+    let device = SimPmem::from_image(alloc, before, ROOM)?;
     match recover(alloc, device) {
-        Ok(arena) => {
-            let device = arena.into_pmem();
-            if device.words(0, device.size_words()) == wanted.as_slice() {
-                Ok(Became::Wanted {
-                    events: device.event_count(),
-                })
-            } else {
-                Ok(Became::Other)
-            }
-        }
+        Ok(arena) => Ok(recovered_to(arena.pmem(), wanted)),
         Err((RecoverFault::Memory(error), _)) => Err(error),
-        Err((RecoverFault::Defect(defect), device)) => {
-            if device.words(0, device.size_words()) == before.as_slice()
-                && device.event_count() == 0
-            {
-                Ok(Became::Refused(defect))
-            } else {
-                Ok(Became::Changed)
-            }
+        Err((RecoverFault::Defect(defect), device)) => Ok(was_refused(&device, before, defect)),
+    }
+}
+
+// A device was made exact: whether it has the words that are wanted.
+fn recovered_to(device: &SimPmem, wanted: &[u64]) -> Became {
+    if device.words(0, device.size_words()) == wanted {
+        Became::Wanted {
+            events: device.event_count(),
         }
+    } else {
+        Became::Other
+    }
+}
+
+// A device was refused for this defect: whether it has the words from before, and no event.
+fn was_refused(device: &SimPmem, before: &[u64], defect: Defect) -> Became {
+    if device.words(0, device.size_words()) == before && device.event_count() == 0 {
+        Became::Refused(defect)
+    } else {
+        Became::Changed
     }
 }
 
 /// The arena that is recovered from these words. `None` where they are not sound.
-fn arena_of(alloc: Global, words: &[u64]) -> Result<Option<Arena<SimPmem>>, OutOfMemory>
+pub fn arena_of(alloc: Global, words: &[u64]) -> Result<Option<Arena<SimPmem>>, OutOfMemory>
     requires whole { length words.now % 8 ≡ 0 }
     requires some { 8 ≤ length words.now }
     requires few { length words.now ≤ 8388608 }
@@ -78,8 +112,8 @@ fn arena_of(alloc: Global, words: &[u64]) -> Result<Option<Arena<SimPmem>>, OutO
     }
 }
 
-/// The arena that is recovered from the words of two rows. `None` where they are not sound.
-pub fn arena_with(
+// The arena that is recovered from the words of two rows. `None` where they are not sound.
+fn arena_with(
     alloc: Global,
     base: &Base,
     changes: &[Put],
@@ -93,9 +127,10 @@ pub type Row<'a> = (&'a [Put], &'a [Put], u32);
 /// The image of each row becomes exact, with the words and by the events that the row has.
 pub fn all_become<R: Abort>(rt: &R, alloc: Global, base: &Base, rows: &[Row]) -> Result<(), Fail> {
     for (changes, after, events) in rows {
-        assert_eq!(rt;
-            recovered(alloc, base, changes, after)?,
-            Became::Wanted { events: *events }
+        same(
+            rt,
+            &recovered(alloc, base, changes, after)?,
+            &Became::Wanted { events: *events },
         );
     }
     Ok(())
@@ -112,14 +147,26 @@ pub fn freed(at: u32, size: u32) -> Option<Freed> {
 }
 
 /// What an arena has at a root, and where it puts a block of another.
+pub type Held = (Option<Block>, Option<Placed>);
+
+fn holds(arena: &mut Arena<SimPmem>, held: u32, root: u32, size: u64) -> Held {
+    let block = arena.block(held);
+    (block, arena.malloc_to(0, root, size).ok())
+}
+
+/// The same of the arena that is recovered from the words of two rows. `None` where they are not sound.
 pub fn goes_on(
-    mut arena: Arena<SimPmem>,
+    alloc: Global,
+    base: &Base,
+    changes: &[Put],
     held: u32,
     root: u32,
     size: u64,
-) -> (Option<Block>, Option<Placed>) {
-    let block = arena.block(held);
-    (block, arena.malloc_to(0, root, size).ok())
+) -> Result<Option<Held>, OutOfMemory> {
+    match arena_with(alloc, base, changes)? {
+        Some(mut arena) => Ok(Some(holds(&mut arena, held, root, size))),
+        None => Ok(None),
+    }
 }
 
 /// What an arena answers to a malloc, a free behind it, and the same malloc for another root and for an eighth one; and how
@@ -133,8 +180,8 @@ pub struct Answered {
     pub eighth: Option<Placed>,
 }
 
-/// An arena gives root 3 so many bytes, frees the block of a root, and gives the roots 4 to 11 as many.
-pub fn frees_between(mut arena: Arena<SimPmem>, root: u32, size: u64) -> Answered {
+// An arena gives root 3 so many bytes, frees the block of a root, and gives the roots 4 to 11 as many.
+fn frees_between(arena: &mut Arena<SimPmem>, root: u32, size: u64) -> Answered {
     let before = arena.malloc_to(0, 3, size).ok();
     let freed = arena.free_from(0, root).ok();
     let events = arena.pmem().event_count();
@@ -152,6 +199,19 @@ pub fn frees_between(mut arena: Arena<SimPmem>, root: u32, size: u64) -> Answere
     }
 }
 
+/// So does the arena that is recovered from the words of a row. `None` where they are not sound.
+pub fn answers(
+    alloc: Global,
+    base: &Base,
+    root: u32,
+    size: u64,
+) -> Result<Option<Answered>, OutOfMemory> {
+    match arena_with(alloc, base, &[])? {
+        Some(mut arena) => Ok(Some(frees_between(&mut arena, root, size))),
+        None => Ok(None),
+    }
+}
+
 /// What an arena answers to a move, and to a free by the root that the block came to; and how many events each has.
 #[derive(Clone, Copy, Debug, PartialEq, Eq)]
 pub struct Passed {
@@ -161,8 +221,8 @@ pub struct Passed {
     pub freeing: u32,
 }
 
-/// An arena moves a root's block to another, from which it is freed.
-pub fn moves_and_frees(mut arena: Arena<SimPmem>, from: u32, to: u32) -> Passed {
+// An arena moves a root's block to another, from which it is freed.
+fn moves_and_frees(arena: &mut Arena<SimPmem>, from: u32, to: u32) -> Passed {
     let moved = arena.move_to(from, to).ok();
     let moving = arena.pmem().event_count();
     let freed = arena.free_from(0, to).ok();
@@ -175,12 +235,30 @@ pub fn moves_and_frees(mut arena: Arena<SimPmem>, from: u32, to: u32) -> Passed 
     }
 }
 
+/// So does the arena that is recovered from the words of a row. `None` where they are not sound.
+pub fn passes(
+    alloc: Global,
+    base: &Base,
+    from: u32,
+    to: u32,
+) -> Result<Option<Passed>, OutOfMemory> {
+    match arena_with(alloc, base, &[])? {
+        Some(mut arena) => Ok(Some(moves_and_frees(&mut arena, from, to))),
+        None => Ok(None),
+    }
+}
+
 /// The address of the block of a root, 0 for none.
 fn at_of(arena: &Arena<SimPmem>, root: u32) -> u32 {
     match arena.block(root) {
         Some(block) => block.at,
         None => 0,
     }
+}
+
+// The same of two roots.
+fn both_at(arena: &Arena<SimPmem>, one: u32, other: u32) -> (u32, u32) {
+    (at_of(arena, one), at_of(arena, other))
 }
 
 /// The addresses of the blocks of two roots, 0 for none, in an arena that was recovered from an image. `None` where that is
@@ -195,7 +273,7 @@ fn both_of(
         return Ok(None);
     }
     match arena_of(alloc, words)? {
-        Some(arena) => Ok(Some((at_of(&arena, one), at_of(&arena, other)))),
+        Some(arena) => Ok(Some(both_at(&arena, one, other))),
         None => Ok(None),
     }
 }
@@ -210,9 +288,21 @@ pub fn crash_in_a_move(
     k: u32,
     seed: u64,
 ) -> Result<Option<(u32, u32)>, OutOfMemory> {
-    let Some(mut arena) = arena_with(alloc, base, &[])? else {
-        return Ok(None);
-    };
+    match arena_with(alloc, base, &[])? {
+        Some(mut arena) => cut_off(alloc, &mut arena, from, to, k, seed),
+        None => Ok(None),
+    }
+}
+
+// The same of an arena that is at hand.
+fn cut_off(
+    alloc: Global,
+    arena: &mut Arena<SimPmem>,
+    from: u32,
+    to: u32,
+    k: u32,
+    seed: u64,
+) -> Result<Option<(u32, u32)>, OutOfMemory> {
     if arena.move_to(from, to).is_err() || k > arena.pmem().event_count() {
         return Ok(None);
     }

@@ -18,3 +18,5 @@ mod morphing;
 mod moving;
 #[cfg(test)]
 mod small;
+#[cfg(test)]
+mod values;

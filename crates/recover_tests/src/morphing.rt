@@ -1,7 +1,6 @@
 // An arena with a slab that took another class, and images in which several things are loose.
-use crate::images::{
-    Answered, Became, Row, all_become, arena_with, freed, frees_between, placed, recovered,
-};
+use crate::images::{Answered, Became, Row, all_become, answers, freed, placed, recovered};
+use crate::values::same;
 use check_tests::{IN_TRANSITION, Put};
 use pool_layout::Defect;
 use std::test::Fail;
@@ -78,12 +77,13 @@ fn two_slabs_nearly_done(rt: HostRuntime) -> Result<(), Fail> {
 #[test]
 fn defects(rt: HostRuntime) -> Result<(), Fail> {
     let stray: [Put; 1] = [(24576, 16978690)];
-    assert_eq!(rt;
-        recovered(rt.alloc(), &IN_TRANSITION, &stray, &[])?,
-        Became::Refused(Defect::StrayRoot {
+    same(
+        &rt,
+        &recovered(rt.alloc(), &IN_TRANSITION, &stray, &[])?,
+        &Became::Refused(Defect::StrayRoot {
             root: 2,
             at: 199680,
-        })
+        }),
     );
     Ok(())
 }
@@ -100,10 +100,10 @@ fn old_block_goes(rt: HostRuntime) -> Result<(), Fail> {
         next: placed(201728, 1024),
         eighth: placed(198656, 1024),
     };
-    let arena = arena_with(rt.alloc(), &IN_TRANSITION, &[])?;
-    assert_eq!(rt;
-        arena.map(|arena| frees_between(arena, 1, 1000)),
-        Some(wanted)
+    same(
+        &rt,
+        &answers(rt.alloc(), &IN_TRANSITION, 1, 1000)?,
+        &Some(wanted),
     );
     Ok(())
 }

@@ -1,6 +1,7 @@
 // Blocks that move from a root to another: an old one of a slab that took another class, and what recovery finds once a
 // crash came within a move.
-use crate::images::{Passed, arena_with, crash_in_a_move, freed, moves_and_frees};
+use crate::images::{Passed, crash_in_a_move, freed, passes};
+use crate::values::same;
 use arena_core::Moved;
 use check_tests::{IN_TRANSITION, ONE_BLOCK};
 use std::test::Fail;
@@ -17,10 +18,10 @@ fn old_block_moves(rt: HostRuntime) -> Result<(), Fail> {
         freed: freed(198656, 64),
         freeing: 14,
     };
-    let arena = arena_with(rt.alloc(), &IN_TRANSITION, &[])?;
-    assert_eq!(rt;
-        arena.map(|arena| moves_and_frees(arena, 1, 9)),
-        Some(wanted)
+    same(
+        &rt,
+        &passes(rt.alloc(), &IN_TRANSITION, 1, 9)?,
+        &Some(wanted),
     );
     Ok(())
 }

@@ -1,5 +1,6 @@
 // Images in which nothing is loose, and open entries of an arena with one block.
-use crate::images::{Became, Row, all_become, arena_with, goes_on, placed, recovered};
+use crate::images::{Became, Row, all_become, goes_on, placed, recovered};
+use crate::values::same;
 use check_tests::{IN_TRANSITION, ONE_BLOCK, Put, SECOND_VERSION};
 use heap_model::Block;
 use pool_layout::Defect;
@@ -48,10 +49,10 @@ fn arena_goes_on(rt: HostRuntime) -> Result<(), Fail> {
         (&[(64, 290271070060545), (2053, 0)], None, 67584),
     ];
     for (changes, block, at) in rows {
-        let arena = arena_with(rt.alloc(), &ONE_BLOCK, changes)?;
-        assert_eq!(rt;
-            arena.map(|arena| goes_on(arena, 5, 6, 100)),
-            Some((block, placed(at, 112)))
+        same(
+            &rt,
+            &goes_on(rt.alloc(), &ONE_BLOCK, changes, 5, 6, 100)?,
+            &Some((block, placed(at, 112))),
         );
     }
     Ok(())
@@ -81,12 +82,13 @@ fn of_version_2(rt: HostRuntime) -> Result<(), Fail> {
         (&[(18448, 33558785)], &[(18456, 4355)], 3),
     ];
     all_become(&rt, rt.alloc(), &SECOND_VERSION, &rows)?;
-    assert_eq!(rt;
-        recovered(rt.alloc(), &SECOND_VERSION, &[(18430, 215_040)], &[])?,
-        Became::Refused(Defect::SharedBlock {
+    same(
+        &rt,
+        &recovered(rt.alloc(), &SECOND_VERSION, &[(18430, 215_040)], &[])?,
+        &Became::Refused(Defect::SharedBlock {
             first: 16382,
-            second: 16383
-        })
+            second: 16383,
+        }),
     );
     Ok(())
 }
@@ -99,10 +101,10 @@ fn arena_of_version_2_goes_on(rt: HostRuntime) -> Result<(), Fail> {
         at: 215_040,
         size: 112,
     };
-    let arena = arena_with(rt.alloc(), &SECOND_VERSION, &[])?;
-    assert_eq!(rt;
-        arena.map(|arena| goes_on(arena, 16383, 6, 100)),
-        Some((Some(held), placed(215_152, 112)))
+    same(
+        &rt,
+        &goes_on(rt.alloc(), &SECOND_VERSION, &[], 16383, 6, 100)?,
+        &Some((Some(held), placed(215_152, 112))),
     );
     Ok(())
 }

@@ -19,3 +19,5 @@ mod runs;
 mod scripts;
 #[cfg(test)]
 mod traces;
+#[cfg(test)]
+mod values;

@@ -2,6 +2,7 @@
 ghost use Rattle.std.specs.Prelude.{◌≤◌};
 
 use crate::one_arena::empty_arena;
+use crate::values::same;
 use heap_model::{Call, Entry};
 use serve_runs::make_calls;
 use shared_pool::OpenGate;
@@ -69,7 +70,7 @@ fn all_are_served<R: Abort + Threads + Wait + Sync>(
     let arenas = vec![in alloc; empty_arena(alloc)?]?;
     let closed = make_calls(rt, alloc, &trace, arenas, room, &OpenGate)?;
     for arena in closed.iter() {
-        assert_eq!(rt; arena.journal.len(), trace.calls.len());
+        same(rt, &arena.journal.len(), &trace.calls.len());
         for sender in 0..SENDERS {
             let own = served(alloc, &arena.journal, sender)?;
             assert_eq!(rt; own, sent(alloc, &trace.calls, sender)?, "sender {sender}");

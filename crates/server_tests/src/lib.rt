@@ -11,6 +11,8 @@ mod one_arena;
 #[cfg(test)]
 mod rows;
 mod serving;
+#[cfg(test)]
+mod values;
 
 pub use one_arena::{Single, close_one, empty_arena, open_one};
 pub use serving::serve;

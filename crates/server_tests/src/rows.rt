@@ -5,6 +5,7 @@ ghost use Rattle.arena_server.specs.Servers.{IsSenderOf, IsOwnerOf};
 
 use crate::one_arena::{Single, close_one, empty_arena, open_one};
 use crate::serving::serve;
+use crate::values::same;
 use arena_server::{Owner, Request, Sender, Served, Server};
 use heap_model::{Call, Reply};
 use pmem_lines::{OutOfMemory, SimPmem};
@@ -45,13 +46,17 @@ fn served_skipped_and_left(rt: HostRuntime) -> Result<(), OutOfMemory> {
     let skipped = owner.has_skipped();
     let desk = close_one(&rt, alloc, server, sender, owner)?;
     let (served, given_out) = asked?;
-    assert_eq!(&rt; served.request, of_sender_0(MALLOC));
-    assert_eq!(&rt; served.receipt.place, 0);
-    assert_eq!(&rt; served.receipt.entry.reply, PLACED);
-    assert_eq!(&rt; given_out, of_sender_0(FREE));
+    same(&rt, &served.request, &of_sender_0(MALLOC));
+    same(&rt, &served.receipt.place, &0);
+    same(&rt, &served.receipt.entry.reply, &PLACED);
+    same(&rt, &given_out, &of_sender_0(FREE));
     assert!(&rt; skipped);
-    assert_eq!(&rt; desk.journal.as_slice(), [served.receipt.entry].as_slice());
-    assert_eq!(&rt; desk.left.as_slice(), [of_sender_0(READ)].as_slice());
+    same(
+        &rt,
+        &desk.journal.as_slice(),
+        &[served.receipt.entry].as_slice(),
+    );
+    same(&rt, &desk.left.as_slice(), &[of_sender_0(READ)].as_slice());
     assert!(&rt; desk.arena.block(5).is_some());
     Ok(())
 }
@@ -89,15 +94,15 @@ fn two_threads_at_a_narrow_queue(rt: HostRuntime) -> Result<(), OutOfMemory> {
     };
     let calls = [MALLOC, write, READ, FREE, MALLOC];
     let desk = serve(&rt, alloc, empty_arena(alloc)?, &calls, 1)?;
-    assert_eq!(&rt; desk.journal.len(), 5);
+    same(&rt, &desk.journal.len(), &5);
     assert!(&rt; desk.left.is_empty());
     for (i, entry) in desk.journal.iter().enumerate() {
-        assert_eq!(&rt; entry.seat, 0);
+        same(&rt, &entry.seat, &0);
         if i == 0 {
-            assert_eq!(&rt; entry.reply, PLACED);
+            same(&rt, &entry.reply, &PLACED);
         }
         if i == 2 {
-            assert_eq!(&rt; entry.reply, Reply::Value { word: 77 });
+            same(&rt, &entry.reply, &Reply::Value { word: 77 });
         }
     }
     Ok(())

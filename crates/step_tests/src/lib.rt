@@ -14,3 +14,5 @@ mod slabs;
 mod small;
 #[cfg(test)]
 mod steps;
+#[cfg(test)]
+mod values;

@@ -2,13 +2,17 @@
 // class.
 mod morphs;
 
+ghost use Rattle.pmem_lines.specs.Pmem.{IsZeroed};
+
 use crate::steps::events::{flush, has_events, store};
+use crate::values::same;
 use durable_steps::write_word;
 use pmem_lines::{Event, Pmem, SimPmem};
 use slab_header::{
     IndexEntry, SlabState, index_of, index_word, make_slab, put_bit, put_index, state_of,
     state_word,
 };
+use std::process::Abort;
 use std::test::Fail;
 
 #[test]
@@ -32,7 +36,7 @@ fn state_words(rt: HostRuntime) {
         let state = state_of(word);
         assert_eq!(rt; state, expected, "of {word}");
         if let Some(s) = state {
-            assert_eq!(rt; state_word(s), word);
+            same(&rt, &state_word(s), &word);
         }
     }
 }
@@ -48,7 +52,7 @@ fn index_words(rt: HostRuntime) {
         let entry = index_of(word);
         assert_eq!(rt; entry.map(|e| (e.live, e.number)), expected, "of {word}");
         if let Some(e) = entry {
-            assert_eq!(rt; index_word(e), word);
+            same(&rt, &index_word(e), &word);
         }
     }
 }
@@ -83,10 +87,17 @@ fn words_that_say_nothing(rt: HostRuntime) {
 #[test]
 fn slab_of_class_6(rt: HostRuntime) -> Result<(), Fail> {
     let mut device = SimPmem::zeroed(rt.alloc(), 4096, 75)?;
-    write_word(&mut device, 65664, 7);
+    make_one_of_class_6(&rt, &mut device);
+    Ok(())
+}
+
+fn make_one_of_class_6<R: Abort>(rt: &R, device: &mut SimPmem)
+    requires { IsZeroed device.old 4096 75 }
+{
+    write_word(device, 65664, 7);
     device.begin();
-    make_slab(&mut device, 65536, 6);
-    assert_eq!(rt; device.event_count(), 75);
+    make_slab(device, 65536, 6);
+    same(rt, &device.event_count(), &75);
     let events = [
         (0, store(65600, 0)),
         (63, store(66104, 0)),
@@ -95,25 +106,30 @@ fn slab_of_class_6(rt: HostRuntime) -> Result<(), Fail> {
         (73, flush(1032)),
         (74, Event::Fence),
     ];
-    has_events(&rt, &device, &events);
-    assert_eq!(rt; (device.load(65536), device.load(65664)), (0x0601, 0));
-    Ok(())
+    has_events(rt, device, &events);
+    same(rt, &(device.load(65536), device.load(65664)), &(0x0601, 0));
 }
 
 #[test]
 fn bits_and_index_of_a_slab(rt: HostRuntime) -> Result<(), Fail> {
     let mut device = SimPmem::zeroed(rt.alloc(), 4096, 10)?;
-    put_bit(&mut device, 65536, 0, true);
-    put_bit(&mut device, 65536, 1, true);
-    put_bit(&mut device, 65536, 8, true);
-    put_bit(&mut device, 65536, 0, false);
+    put_bits_and_index(&rt, &mut device);
+    Ok(())
+}
+
+fn put_bits_and_index<R: Abort>(rt: &R, device: &mut SimPmem)
+    requires { IsZeroed device.old 4096 10 }
+{
+    put_bit(device, 65536, 0, true);
+    put_bit(device, 65536, 1, true);
+    put_bit(device, 65536, 8, true);
+    put_bit(device, 65536, 0, false);
     let entry = IndexEntry {
         live: true,
         number: 5,
     };
-    put_index(&mut device, 65536, 9, entry);
+    put_index(device, 65536, 9, entry);
     let words = [device.load(65600), device.load(65664), device.load(66184)];
-    assert_eq!(rt; words, [2, 1, 0x0005_0001]);
-    assert_eq!(rt; device.left(), 0);
-    Ok(())
+    same(rt, &words, &[2, 1, 0x0005_0001]);
+    same(rt, &device.left(), &0);
 }

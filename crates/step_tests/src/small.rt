@@ -2,13 +2,19 @@
 // granule 4, root 5, write-ahead line 3. `entries` tests the write-ahead entries under which it does.
 mod entries;
 
+ghost use Rattle.std.specs.Prelude.{◌≡◌};
+ghost use Rattle.pmem_lines.specs.Pmem.{IsZeroed};
+
 use crate::steps::events::{Fenced, events_of, has_exactly};
+use crate::values::same;
 use attach_steps::{SmallBlock, attach, detach};
 use book_log::{BookLog, LogEntry};
 use durable_steps::write_word;
 use pmem_lines::{Pmem, SimPmem};
 use pool_layout::{directory_at, fields_at, header_text, text_at};
 use slab_header::make_slab;
+use std::alloc::Global;
+use std::process::Abort;
 use std::test::Fail;
 
 // Blocks of class 6 have 112 bytes, and are behind the 2048 bytes of the slab's header. Bit 1 of the first word of line 2
@@ -35,26 +41,53 @@ const PARTS: [Fenced; 6] = [
 #[test]
 fn comes_and_goes(rt: HostRuntime) -> Result<(), Fail> {
     let mut device = SimPmem::zeroed(rt.alloc(), 4096, 87)?;
-    let mut log = BookLog::new(rt.alloc(), 16)?;
-    write_word(&mut device, fields_at(), 0x0001_0010_0000_0001);
-    write_word(&mut device, directory_at(), 1);
-    write_word(&mut device, text_at(), header_text());
-    log.load(&device);
-    make_slab(&mut device, 65536, 6);
+    come_and_go_on(&rt, rt.alloc(), &mut device)
+}
+
+// On a memory of zeros: what is read, and the events.
+fn come_and_go_on<R: Abort>(rt: &R, alloc: Global, device: &mut SimPmem) -> Result<(), Fail>
+    requires { IsZeroed device.old 4096 87 }
+{
+    come_and_go_by_a_log(rt, alloc, device)?;
+    has_events_of_parts(rt, alloc, device)
+}
+
+fn come_and_go_by_a_log<R: Abort>(rt: &R, alloc: Global, device: &mut SimPmem) -> Result<(), Fail>
+    requires { IsZeroed device.old 4096 87 }
+{
+    let mut log = BookLog::new(alloc, 16)?;
+    come_and_go(rt, &mut log, device);
+    Ok(())
+}
+
+fn come_and_go<R: Abort>(rt: &R, log: &mut BookLog, device: &mut SimPmem)
+    requires zeroed { IsZeroed device.old 4096 87 }
+    requires granules { log.old.granules ≡ 16 }
+{
+    write_word(device, fields_at(), 0x0001_0010_0000_0001);
+    write_word(device, directory_at(), 1);
+    write_word(device, text_at(), header_text());
+    log.load(device);
+    make_slab(device, 65536, 6);
     assert!(rt; log.has_room());
-    log.append(&mut device, LogEntry::Slab { start: 4 });
+    log.append(device, LogEntry::Slab { start: 4 });
     device.begin();
-    attach(&mut device, 3, 5, BLOCK);
-    assert_eq!(rt;
-        (device.load(16424), device.load(65664), device.load(704)),
-        (68592, 2, 0)
+    attach(device, 3, 5, BLOCK);
+    same(
+        rt,
+        &(device.load(16424), device.load(65664), device.load(704)),
+        &(68592, 2, 0),
     );
-    detach(&mut device, 3, 5, BLOCK);
-    assert_eq!(rt;
-        (device.load(16424), device.load(65664), device.load(704)),
-        (0, 0, 0)
+    detach(device, 3, 5, BLOCK);
+    same(
+        rt,
+        &(device.load(16424), device.load(65664), device.load(704)),
+        &(0, 0, 0),
     );
-    let events = events_of(rt.alloc(), &PARTS)?;
-    has_exactly(&rt, &device, &events);
+}
+
+fn has_events_of_parts<R: Abort>(rt: &R, alloc: Global, device: &SimPmem) -> Result<(), Fail> {
+    let events = events_of(alloc, &PARTS)?;
+    has_exactly(rt, device, &events);
     Ok(())
 }

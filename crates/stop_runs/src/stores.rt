@@ -111,26 +111,49 @@ fn stop_at(
     requires values { HasValues script.now }
     requires call { crashed.now.call ≤ length script.now.calls.items }
 {
-    let Some(arena) = of_image::<Arena<SimPmem>>(alloc, &crashed.image)? else {
-        return Err(stop.fault().into());
-    };
     counts.stops = counts.stops.saturating_add(1);
     counts.recovered = counts.recovered.saturating_add(1);
     let report = if stop.seed > 0 {
-        report_of(alloc, script, crashed, arena)?
+        report_of_image(alloc, script, crashed, &crashed.image)?
     } else {
-        stop_recovery(
-            alloc,
-            script,
-            crashed,
-            arena.into_pmem(),
-            stop.event,
-            counts,
-        )?
+        report_and_stop(alloc, script, crashed, stop.event, counts)?
     };
     match report {
         Some(report) if may_be_left(alloc, store, crashed.call, &report)? => Ok(()),
         _ => Err(stop.fault().into()),
+    }
+}
+
+// The report of an image that a crash left, once it is recovered. `None` where it is not sound, or no dictionary.
+fn report_of_image(
+    alloc: Global,
+    script: &Script,
+    crashed: &DictCrashed,
+    image: &[u64],
+) -> Result<Option<Vec<u8>>>
+    requires values { HasValues script.now }
+    requires call { crashed.now.call ≤ length script.now.calls.items }
+{
+    match of_image(alloc, image)? {
+        Some(arena) => report_of(alloc, script, crashed, arena),
+        None => Ok(None),
+    }
+}
+
+// The same of a stop with the first seed, whose recovery is stopped at each of its events.
+fn report_and_stop(
+    alloc: Global,
+    script: &Script,
+    crashed: &DictCrashed,
+    event: u64,
+    counts: &mut Counts,
+) -> Result<Option<Vec<u8>>>
+    requires values { HasValues script.now }
+    requires call { crashed.now.call ≤ length script.now.calls.items }
+{
+    match of_image::<Arena<SimPmem>>(alloc, &crashed.image)? {
+        Some(arena) => stop_recovery(alloc, script, crashed, arena.pmem(), event, counts),
+        None => Ok(None),
     }
 }
 
@@ -140,7 +163,7 @@ fn stop_recovery(
     alloc: Global,
     script: &Script,
     crashed: &DictCrashed,
-    device: SimPmem,
+    device: &SimPmem,
     event: u64,
     counts: &mut Counts,
 ) -> Result<Option<Vec<u8>>>
@@ -148,9 +171,9 @@ fn stop_recovery(
     requires call { crashed.now.call ≤ length script.now.calls.items }
 {
     let count = device.event_count();
-    let last = report_behind(alloc, script, crashed, &device, count)?;
+    let last = report_behind(alloc, script, crashed, device, count)?;
     for again in 1..=count {
-        if report_behind(alloc, script, crashed, &device, again)? != last {
+        if report_behind(alloc, script, crashed, device, again)? != last {
             return Err(StoreFault::Recovery { event, again }.into());
         }
         counts.recovered = counts.recovered.saturating_add(1);
@@ -170,10 +193,7 @@ fn report_behind(
     requires call { crashed.now.call ≤ length script.now.calls.items }
 {
     match stopped_image(alloc, device, events, 0)? {
-        Some(image) => match of_image(alloc, &image)? {
-            Some(arena) => report_of(alloc, script, crashed, arena),
-            None => Ok(None),
-        },
+        Some(image) => report_of_image(alloc, script, crashed, &image),
         None => Ok(None),
     }
 }
@@ -189,26 +209,42 @@ fn report_of(
     requires call { crashed.now.call ≤ length script.now.calls.items }
 {
     match Dict::open(alloc, arena) {
-        Ok(dict) => {
-            let mut report = Vec::new(alloc);
-            write_left(crashed, script, &dict, &mut report)?;
-            Ok(Some(report))
-        }
+        Ok(dict) => told(alloc, script, crashed, &dict),
         Err((OpenFault::Memory(fault), _)) => Err(fault.into()),
         Err((OpenFault::NotDict { .. }, _)) => Ok(None),
     }
+}
+
+// What is told of a crash that left a dictionary.
+fn told(
+    alloc: Global,
+    script: &Script,
+    crashed: &DictCrashed,
+    dict: &Dict<SimPmem>,
+) -> Result<Option<Vec<u8>>>
+    requires values { HasValues script.now }
+    requires call { crashed.now.call ≤ length script.now.calls.items }
+{
+    let mut report = Vec::new(alloc);
+    write_left(crashed, script, dict, &mut report)?;
+    Ok(Some(report))
 }
 
 // A report is one that a crash within this call may have: the side and its map go together.
 fn may_be_left(alloc: Global, store: StoreScript, call: u64, report: &[u8]) -> Result<bool> {
     let behind = store.map_behind(alloc, call)?;
     let before = store.map_behind(alloc, call.saturating_sub(1))?;
-    let same = format!(in alloc; "call {call} same\n{behind}")?;
-    let first = format!(in alloc; "call {call} before\n{before}")?;
-    let second = format!(in alloc; "call {call} after\n{behind}")?;
-    Ok(if before == behind {
-        same.as_bytes() == report
-    } else {
-        first.as_bytes() == report || second.as_bytes() == report
-    })
+    if before == behind {
+        return tells(alloc, report, call, "same", &behind);
+    }
+    Ok(
+        tells(alloc, report, call, "before", &before)?
+            || tells(alloc, report, call, "after", &behind)?,
+    )
+}
+
+// A report says on which side of a call it is, and has this map.
+fn tells(alloc: Global, report: &[u8], call: u64, side: &str, map: &str) -> Result<bool> {
+    let text = format!(in alloc; "call {call} {side}\n{map}")?;
+    Ok(text.as_bytes() == report)
 }

@@ -59,6 +59,12 @@ pub(crate) fn dict_with(alloc: Global, count: u32) -> Result<Dict<SimPmem>>
     Ok(dict)
 }
 
+/// The arena of such a dictionary.
+pub(crate) fn arena_with(alloc: Global, count: u32) -> Result<Arena<SimPmem>> {
+    let dict = dict_with(alloc, count)?;
+    Ok(dict.into_arena())
+}
+
 // An arena in which no root names a block.
 fn new_arena(alloc: Global) -> Result<Arena<SimPmem>, OutOfMemory> {
     let room = ArenaRoom::new(alloc, GRANULES)?;

@@ -22,9 +22,19 @@ pub(crate) struct Sums {
 
 /// A `get` of each of 4,000 keys, beside a view of each of their roots. The sums are those of all rounds.
 pub(crate) fn time_looks<C: Clock>(rt: &C, alloc: Global, rounds: u32) -> Result<(Best, Sums)> {
-    let held = held_keys(alloc, KEYS)?;
     let dict = dict_with(alloc, KEYS)?;
-    Ok(look_laps(rt, &dict, &held, rounds))
+    time_looks_at(rt, alloc, &dict, rounds)
+}
+
+// The same at a dictionary with the keys.
+fn time_looks_at<C: Clock>(
+    rt: &C,
+    alloc: Global,
+    dict: &Dict<SimPmem>,
+    rounds: u32,
+) -> Result<(Best, Sums)> {
+    let held = held_keys(alloc, KEYS)?;
+    Ok(look_laps(rt, dict, &held, rounds))
 }
 
 // Both in turn, so many times.

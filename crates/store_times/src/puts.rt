@@ -4,7 +4,7 @@ ghost use Rattle.pmem_lines.specs.Pmem.{words_of};
 ghost use Rattle.attach_dict.specs.Dict.{most_values};
 ghost use Rattle.attach_dict.specs.Stages.{Idle, AreNoneStale};
 
-use crate::keys::{Held, VALUE_WORDS, dict_with, held_keys};
+use crate::keys::{Held, VALUE_WORDS, arena_with, dict_with, held_keys};
 use crate::laps::{Best, clock, each};
 use anyhow::{Result, bail};
 use arena_core::Arena;
@@ -31,14 +31,35 @@ struct ByHand {
 
 /// Puts that replace each of 2,000 keys in turn, beside the same by four calls of an arena that has the same words.
 pub(crate) fn time_puts<C: Clock>(rt: &C, alloc: Global, rounds: u32) -> Result<Best> {
+    let mut arena = arena_with(alloc, KEYS)?;
+    time_puts_beside(rt, alloc, &mut arena, rounds)
+}
+
+// The same beside an arena with the keys.
+fn time_puts_beside<C: Clock>(
+    rt: &C,
+    alloc: Global,
+    arena: &mut Arena<SimPmem>,
+    rounds: u32,
+) -> Result<Best> {
     let mut hand = ByHand {
         held: held_keys(alloc, KEYS)?,
         spare: KEYS + 1,
         number: u64::from(KEYS),
     };
-    let mut arena = dict_with(alloc, KEYS)?.into_arena();
+    time_puts_over(rt, alloc, arena, &mut hand, rounds)
+}
+
+// The same with what is known of the arena, and a dictionary of its own.
+fn time_puts_over<C: Clock>(
+    rt: &C,
+    alloc: Global,
+    arena: &mut Arena<SimPmem>,
+    hand: &mut ByHand,
+    rounds: u32,
+) -> Result<Best> {
     let mut dict = dict_with(alloc, KEYS)?;
-    put_laps(rt, &mut dict, &mut arena, &mut hand, rounds)
+    put_laps(rt, &mut dict, arena, hand, rounds)
 }
 
 // Both in turn, so many times. Both arenas have the same blocks in the end.

@@ -15,3 +15,5 @@ mod stacks;
 mod supply;
 #[cfg(test)]
 mod units;
+#[cfg(test)]
+mod values;

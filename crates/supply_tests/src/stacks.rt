@@ -2,9 +2,11 @@
 ghost use Rattle.std.specs.Prelude.{◌+◌, ◌*◌, ◌^◌, ◌<◌, ◌≤◌};
 ghost use Rattle.heap_model.specs.Placement.{AreRising};
 
+use crate::values::same;
 use arrayvec::ArrayVec;
 use pmem_lines::OutOfMemory;
 use std::alloc::Global;
+use std::process::Abort;
 use std::test::Fail;
 use thread_cache::ThreadCaches;
 
@@ -68,15 +70,19 @@ fn first_refused(caches: &mut ThreadCaches, seat: u32, class: u8, blocks: &[u32]
 #[test]
 fn last_back_goes_first(rt: HostRuntime) -> Result<(), Fail> {
     let mut caches = with_row(rt.alloc(), 0, 3, 67584, 64, 8)?;
-    for want in [67584, 67648, 67712] {
-        assert_eq!(rt; caches.pop(0, 3), Some(want));
-    }
-    assert!(rt; put_back(&mut caches, 0, 3, 67584));
-    assert!(rt; put_back(&mut caches, 0, 3, 67648));
-    for want in [67648, 67584, 67776] {
-        assert_eq!(rt; caches.pop(0, 3), Some(want));
-    }
+    puts_two_back(&rt, &mut caches);
     Ok(())
+}
+
+fn puts_two_back<R: Abort>(rt: &R, caches: &mut ThreadCaches) {
+    for want in [67584, 67648, 67712] {
+        same(rt, &caches.pop(0, 3), &Some(want));
+    }
+    assert!(rt; put_back(caches, 0, 3, 67584));
+    assert!(rt; put_back(caches, 0, 3, 67648));
+    for want in [67648, 67584, 67776] {
+        same(rt, &caches.pop(0, 3), &Some(want));
+    }
 }
 
 // The ninth request of 64 bytes has refilled the stack with the blocks 8 to 15. It leaves seven, so one block may come
@@ -84,40 +90,62 @@ fn last_back_goes_first(rt: HostRuntime) -> Result<(), Fail> {
 #[test]
 fn eight_at_most(rt: HostRuntime) -> Result<(), Fail> {
     let mut caches = with_row(rt.alloc(), 0, 3, 68096, 64, 8)?;
-    assert_eq!(rt; caches.pop(0, 3), Some(68096));
-    assert!(rt; put_back(&mut caches, 0, 3, 67584));
+    puts_back_up_to_eight(&rt, &mut caches);
+    Ok(())
+}
+
+fn puts_back_up_to_eight<R: Abort>(rt: &R, caches: &mut ThreadCaches) {
+    same(rt, &caches.pop(0, 3), &Some(68096));
+    assert!(rt; put_back(caches, 0, 3, 67584));
     for at in [67648, 67712, 67776, 67840, 67904, 67968, 68032, 68096] {
-        assert!(rt; !put_back(&mut caches, 0, 3, at), "for {at}");
+        assert!(rt; !put_back(caches, 0, 3, at), "for {at}");
         assert!(rt; !caches.holds(at), "for {at}");
     }
     assert!(rt; caches.holds(67584) && caches.holds(68544));
     caches.purge_slab(65536);
     assert!(rt; !caches.holds(67584) && !caches.holds(68544));
-    assert_eq!(rt; (caches.pop(0, 3), caches.steal(3)), (None, None));
-    Ok(())
+    same(rt, &(caches.pop(0, 3), caches.steal(3)), &(None, None));
 }
 
 // A slab of three blocks of 16384 bytes: seat 0 takes the first, and seat 1 the two others from the stack of seat 0.
 #[test]
 fn all_are_stolen(rt: HostRuntime) -> Result<(), Fail> {
     let mut caches = with_row(rt.alloc(), 0, 35, 198656, 16384, 3)?;
-    assert_eq!(rt; caches.pop(0, 35), Some(198656));
-    assert_eq!(rt; (caches.pop(1, 35), caches.steal(35)), (None, Some(215040)));
-    assert_eq!(rt; (caches.pop(1, 35), caches.steal(35)), (None, Some(231424)));
-    assert_eq!(rt;
-        (caches.pop(0, 35), caches.pop(1, 35), caches.steal(35)),
-        (None, None, None)
-    );
+    steals_all(&rt, &mut caches);
     Ok(())
+}
+
+fn steals_all<R: Abort>(rt: &R, caches: &mut ThreadCaches) {
+    same(rt, &caches.pop(0, 35), &Some(198656));
+    same(
+        rt,
+        &(caches.pop(1, 35), caches.steal(35)),
+        &(None, Some(215040)),
+    );
+    same(
+        rt,
+        &(caches.pop(1, 35), caches.steal(35)),
+        &(None, Some(231424)),
+    );
+    same(
+        rt,
+        &(caches.pop(0, 35), caches.pop(1, 35), caches.steal(35)),
+        &(None, None, None),
+    );
 }
 
 // Three seats have stacks of one class: the lowest-numbered is stolen from, until it is empty. Other classes are not.
 #[test]
 fn lowest_seat_first(rt: HostRuntime) -> Result<(), Fail> {
     let mut caches = with_row(rt.alloc(), 40, 7, 100096, 128, 2)?;
-    assert_eq!(rt; first_refused(&mut caches, 63, 7, &[200000]), None);
-    assert_eq!(rt; first_refused(&mut caches, 5, 7, &[300032, 300160]), None);
-    assert_eq!(rt; first_refused(&mut caches, 0, 8, &[400000]), None);
+    steals_from_three_seats(&rt, &mut caches);
+    Ok(())
+}
+
+fn steals_from_three_seats<R: Abort>(rt: &R, caches: &mut ThreadCaches) {
+    same(rt, &first_refused(caches, 63, 7, &[200000]), &None);
+    same(rt, &first_refused(caches, 5, 7, &[300032, 300160]), &None);
+    same(rt, &first_refused(caches, 0, 8, &[400000]), &None);
     for want in [
         Some(300160),
         Some(300032),
@@ -126,23 +154,30 @@ fn lowest_seat_first(rt: HostRuntime) -> Result<(), Fail> {
         Some(200000),
         None,
     ] {
-        assert_eq!(rt; caches.steal(7), want);
+        same(rt, &caches.steal(7), &want);
     }
-    assert_eq!(rt; (caches.steal(6), caches.steal(8)), (None, Some(400000)));
-    Ok(())
+    same(
+        rt,
+        &(caches.steal(6), caches.steal(8)),
+        &(None, Some(400000)),
+    );
 }
 
 // A slab leaves from stacks of several seats and classes. Its first and last bytes go, those beside it stay, in order.
 #[test]
 fn others_keep_their_order(rt: HostRuntime) -> Result<(), Fail> {
     let mut caches = with_row(rt.alloc(), 2, 0, 131056, 16, 0)?;
+    purges_one_slab(&rt, &mut caches);
+    Ok(())
+}
+
+fn purges_one_slab<R: Abort>(rt: &R, caches: &mut ThreadCaches) {
     let row = [131056, 131072, 65536, 196592, 196608];
-    assert_eq!(rt; first_refused(&mut caches, 2, 0, &row), None);
-    assert_eq!(rt; first_refused(&mut caches, 63, 35, &[133120]), None);
+    same(rt, &first_refused(caches, 2, 0, &row), &None);
+    same(rt, &first_refused(caches, 63, 35, &[133120]), &None);
     caches.purge_slab(131072);
     for want in [Some(196608), Some(65536), Some(131056), None] {
-        assert_eq!(rt; caches.pop(2, 0), want);
+        same(rt, &caches.pop(2, 0), &want);
     }
-    assert_eq!(rt; caches.pop(63, 35), None);
-    Ok(())
+    same(rt, &caches.pop(63, 35), &None);
 }

@@ -2,10 +2,12 @@
 ghost use Rattle.std.specs.Prelude.{◌≡◌, ◌<◌, ◌≤◌, true, IfOk};
 ghost use Rattle.block_supply.specs.Supply.{IsClearOf};
 
+use crate::values::same;
 use block_supply::{BlockSupply, SlabBlock};
 use pmem_lines::OutOfMemory;
 use size_classes::capacity;
 use std::alloc::Global;
+use std::process::Abort;
 use std::test::Fail;
 
 // How many granules there are.
@@ -94,88 +96,118 @@ fn with_slab(alloc: Global, class: u8) -> Result<BlockSupply, OutOfMemory>
 #[test]
 fn by_each_way(rt: HostRuntime) -> Result<(), Fail> {
     let mut supply = with_slab(rt.alloc(), 29)?;
+    takes_by_each_way(&rt, &mut supply);
+    Ok(())
+}
+
+fn takes_by_each_way<R: Abort>(rt: &R, supply: &mut BlockSupply)
+    requires { supply.old.slabs.granules ≡ 24 }
+{
     for (seat, number) in [(0, 0), (1, 8), (1, 9), (1, 1), (0, 2), (63, 3)] {
         assert_eq!(rt; supply.take(seat, 29), some(4, number), "for {seat}");
     }
-    assert_eq!(rt; (supply.take(0, 28), supply.take(0, 30)), (None, None));
-    assert!(rt; add_used(&mut supply, 8, 29, 0));
+    same(rt, &(supply.take(0, 28), supply.take(0, 30)), &(None, None));
+    assert!(rt; add_used(supply, 8, 29, 0));
     for (seat, start, number) in [(1, 8, 0), (0, 4, 4), (1, 8, 1), (63, 8, 8), (63, 8, 9)] {
         assert_eq!(rt; supply.take(seat, 29), some(start, number), "for {seat}");
     }
     for number in [5, 6, 7] {
-        assert_eq!(rt; supply.take(63, 29), some(4, number));
+        same(rt, &supply.take(63, 29), &some(4, number));
     }
     for number in [2, 3, 4, 5, 6, 7] {
-        assert_eq!(rt; supply.take(2, 29), some(8, number));
+        same(rt, &supply.take(2, 29), &some(8, number));
     }
-    assert_eq!(rt; supply.take(1, 29), None);
-    Ok(())
+    same(rt, &supply.take(1, 29), &None);
 }
 
 // Nine are taken, and seven are in the stack: an eighth block goes there, and a ninth is available.
 #[test]
 fn at_seven_and_at_eight(rt: HostRuntime) -> Result<(), Fail> {
     let mut supply = with_slab(rt.alloc(), 3)?;
+    puts_back_an_eighth_and_a_ninth(&rt, &mut supply);
+    Ok(())
+}
+
+fn puts_back_an_eighth_and_a_ninth<R: Abort>(rt: &R, supply: &mut BlockSupply) {
     for number in 0..9 {
-        assert_eq!(rt; supply.take(0, 3), some(4, number));
+        same(rt, &supply.take(0, 3), &some(4, number));
     }
     for number in [0, 1, 5] {
-        assert!(rt; !is_open(&supply, 4, number));
-        assert!(rt; put_back(&mut supply, 0, 4, number));
-        assert!(rt; is_open(&supply, 4, number));
+        assert!(rt; !is_open(supply, 4, number));
+        assert!(rt; put_back(supply, 0, 4, number));
+        assert!(rt; is_open(supply, 4, number));
     }
     for (seat, number) in [(1, 1), (1, 5), (0, 0), (0, 9), (1, 16)] {
         assert_eq!(rt; supply.take(seat, 3), some(4, number), "for {seat}");
     }
-    Ok(())
 }
 
 // A block that is made available is on no stack, and the lowest one is taken next.
 #[test]
 fn is_made_available(rt: HostRuntime) -> Result<(), Fail> {
     let mut supply = with_slab(rt.alloc(), 3)?;
-    assert_eq!(rt; supply.take(0, 3), some(4, 0));
-    assert_eq!(rt; supply.take(0, 3), some(4, 1));
-    assert!(rt; make_available(&mut supply, 4, 1));
-    assert!(rt; !make_available(&mut supply, 4, 2));
+    takes_what_is_made_available(&rt, &mut supply);
+    Ok(())
+}
+
+fn takes_what_is_made_available<R: Abort>(rt: &R, supply: &mut BlockSupply) {
+    same(rt, &supply.take(0, 3), &some(4, 0));
+    same(rt, &supply.take(0, 3), &some(4, 1));
+    assert!(rt; make_available(supply, 4, 1));
+    assert!(rt; !make_available(supply, 4, 2));
     for (seat, number) in [(0, 2), (1, 1), (1, 8)] {
         assert_eq!(rt; supply.take(seat, 3), some(4, number), "for {seat}");
     }
-    Ok(())
 }
 
 // Of four blocks the second and the fourth are open.
 #[test]
 fn is_added_with_used_blocks(rt: HostRuntime) -> Result<(), Fail> {
     let mut supply = BlockSupply::new(rt.alloc(), GRANULES)?;
-    assert!(rt; add_used(&mut supply, 20, 34, 0b0101));
-    assert!(rt; !is_open(&supply, 20, 0) && is_open(&supply, 20, 1));
-    assert!(rt; !is_open(&supply, 20, 2) && is_open(&supply, 20, 3));
+    takes_beside_used_blocks(&rt, &mut supply);
+    Ok(())
+}
+
+fn takes_beside_used_blocks<R: Abort>(rt: &R, supply: &mut BlockSupply)
+    requires { supply.old.slabs.granules ≡ 24 }
+{
+    assert!(rt; add_used(supply, 20, 34, 0b0101));
+    assert!(rt; !is_open(supply, 20, 0) && is_open(supply, 20, 1));
+    assert!(rt; !is_open(supply, 20, 2) && is_open(supply, 20, 3));
     for (seat, number) in [(0, 1), (1, 3)] {
         assert_eq!(rt; supply.take(seat, 34), some(20, number), "for {seat}");
     }
-    assert_eq!(rt; supply.take(0, 34), None);
-    assert!(rt; put_back(&mut supply, 0, 20, 2));
-    assert_eq!(rt; supply.take(1, 34), some(20, 2));
-    Ok(())
+    same(rt, &supply.take(0, 34), &None);
+    assert!(rt; put_back(supply, 0, 20, 2));
+    same(rt, &supply.take(1, 34), &some(20, 2));
 }
 
 // Two seats have blocks of two slabs of three blocks in their stacks. One slab goes, and those of the other stay.
 #[test]
 fn a_slab_is_purged(rt: HostRuntime) -> Result<(), Fail> {
     let mut supply = with_slab(rt.alloc(), 35)?;
-    assert!(rt; add_used(&mut supply, 8, 35, 0));
-    assert_eq!(rt; supply.take(0, 35), some(4, 0));
-    assert_eq!(rt; supply.take(63, 35), some(8, 0));
-    assert!(rt; put_back(&mut supply, 0, 8, 0));
-    assert_eq!(rt; supply.take(63, 35), some(8, 1));
-    assert!(rt; put_back(&mut supply, 63, 4, 0));
+    takes_where_a_slab_goes(&rt, &mut supply);
+    Ok(())
+}
+
+fn takes_where_a_slab_goes<R: Abort>(rt: &R, supply: &mut BlockSupply)
+    requires { supply.old.slabs.granules ≡ 24 }
+{
+    assert!(rt; add_used(supply, 8, 35, 0));
+    same(rt, &supply.take(0, 35), &some(4, 0));
+    same(rt, &supply.take(63, 35), &some(8, 0));
+    assert!(rt; put_back(supply, 0, 8, 0));
+    same(rt, &supply.take(63, 35), &some(8, 1));
+    assert!(rt; put_back(supply, 63, 4, 0));
     if supply.class_at(4).is_some() {
         supply.remove(4);
     }
-    assert_eq!(rt; (supply.class_at(4), supply.class_at(8)), (None, Some(35)));
+    same(
+        rt,
+        &(supply.class_at(4), supply.class_at(8)),
+        &(None, Some(35)),
+    );
     for want in [some(8, 0), some(8, 2), None] {
-        assert_eq!(rt; supply.take(0, 35), want);
+        same(rt, &supply.take(0, 35), &want);
     }
-    Ok(())
 }

@@ -1,8 +1,10 @@
 // The map of units: rows that were worked by hand.
 ghost use Rattle.std.specs.Prelude.{◌≡◌, ◌+◌, ◌<◌, ◌≤◌, IsTrue, IfOk};
 
+use crate::values::same;
 use pmem_lines::OutOfMemory;
 use std::alloc::Global;
+use std::process::Abort;
 use std::test::Fail;
 use unit_map::UnitMap;
 
@@ -63,6 +65,12 @@ fn used(alloc: Global, units: &UnitMap) -> Result<Vec<Span>, OutOfMemory>
     Ok(spans)
 }
 
+// What is used where units were marked, and then others cleared.
+fn used_of(alloc: Global, marks: &[Span], clears: &[Span]) -> Result<Vec<Span>, OutOfMemory> {
+    let units = made(alloc, marks, clears)?;
+    used(alloc, &units)
+}
+
 // Marked, cleared, and what is used then: within a word, over the ends of words, whole words, and the first and last units.
 #[test]
 fn exactly_these(rt: HostRuntime) -> Result<(), Fail> {
@@ -97,8 +105,7 @@ fn exactly_these(rt: HostRuntime) -> Result<(), Fail> {
         (&[Span(0, 16384)], &[Span(64, 0)], &[Span(0, 16384)]),
     ];
     for (marks, clears, want) in rows {
-        let units = made(rt.alloc(), marks, clears)?;
-        let spans = used(rt.alloc(), &units)?;
+        let spans = used_of(rt.alloc(), marks, clears)?;
         assert_eq!(rt; spans.as_slice(), want, "of {marks:?} without {clears:?}");
     }
     Ok(())
@@ -108,6 +115,13 @@ fn exactly_these(rt: HostRuntime) -> Result<(), Fail> {
 #[test]
 fn clear_ranges(rt: HostRuntime) -> Result<(), Fail> {
     let units = made(rt.alloc(), &[Span(100, 200)], &[])?;
+    are_clear_or_not(&rt, &units);
+    Ok(())
+}
+
+fn are_clear_or_not<R: Abort>(rt: &R, units: &UnitMap)
+    requires { units.now.granules ≡ 16 }
+{
     for (span, want) in [
         (Span(0, 100), true),
         (Span(0, 101), false),
@@ -121,7 +135,6 @@ fn clear_ranges(rt: HostRuntime) -> Result<(), Fail> {
         let clear = is_inside(span) && units.is_clear(span.0, span.1);
         assert_eq!(rt; clear, want, "of {span:?}");
     }
-    Ok(())
 }
 
 // The lowest clear block of a class in the slab at granule 4.
@@ -137,13 +150,22 @@ fn first_clear(units: &UnitMap, class: u8, from: u32) -> Option<u32>
 
 // Two live blocks in the slab at granule 4: block 5 of 64 bytes, with its units 20 to 23, and block 1 of 16384 bytes, with
 // those from 1024 to 2047. The last block of 16384 bytes has the units 2048 to 3071.
+fn of_two_blocks(alloc: Global) -> Result<UnitMap, OutOfMemory>
+    ensures { IfOk result (λ units. units.granules ≡ 16) }
+{
+    made(alloc, &[Span(FIRST + 20, 4), Span(FIRST + 1024, 1024)], &[])
+}
+
 #[test]
 fn first_clear_blocks(rt: HostRuntime) -> Result<(), Fail> {
-    let units = made(
-        rt.alloc(),
-        &[Span(FIRST + 20, 4), Span(FIRST + 1024, 1024)],
-        &[],
-    )?;
+    let units = of_two_blocks(rt.alloc())?;
+    are_first_clear(&rt, &units);
+    Ok(())
+}
+
+fn are_first_clear<R: Abort>(rt: &R, units: &UnitMap)
+    requires { units.now.granules ≡ 16 }
+{
     for (class, from, want) in [
         (0, 0, Some(0)),
         (0, 20, Some(24)),
@@ -165,25 +187,27 @@ fn first_clear_blocks(rt: HostRuntime) -> Result<(), Fail> {
         (35, 4_000_000_000, None),
     ] {
         assert_eq!(rt;
-            first_clear(&units, class, from),
+            first_clear(units, class, from),
             want,
             "of {class} from {from}"
         );
     }
-    Ok(())
 }
 
 // The blocks of each class that those two overlap, by the words of the set that are not 0.
 #[test]
 fn overlapped_blocks(rt: HostRuntime) -> Result<(), Fail> {
-    let units = made(
-        rt.alloc(),
-        &[Span(FIRST + 20, 4), Span(FIRST + 1024, 1024)],
-        &[],
-    )?;
-    assert_eq!(rt; units.used_blocks(4, 35)[0], 0b011);
-    assert_eq!(rt; units.used_blocks(4, 34)[0], 0b0111);
-    assert_eq!(rt; units.used_blocks(4, 31)[0], 0b000_1101);
+    let units = of_two_blocks(rt.alloc())?;
+    are_overlapped(&rt, &units);
+    Ok(())
+}
+
+fn are_overlapped<R: Abort>(rt: &R, units: &UnitMap)
+    requires { units.now.granules ≡ 16 }
+{
+    same(rt, &units.used_blocks(4, 35)[0], &0b011);
+    same(rt, &units.used_blocks(4, 34)[0], &0b0111);
+    same(rt, &units.used_blocks(4, 31)[0], &0b000_1101);
     let quarters = units.used_blocks(4, 3);
     for (word, want) in [
         (0, 1 << 5),
@@ -196,25 +220,32 @@ fn overlapped_blocks(rt: HostRuntime) -> Result<(), Fail> {
     ] {
         assert_eq!(rt; quarters.get(word).copied(), Some(want), "word {word}");
     }
-    assert_eq!(rt; units.used_blocks(8, 0)[0], 0);
-    Ok(())
+    same(rt, &units.used_blocks(8, 0)[0], &0);
 }
 
 // All 3968 blocks of 16 bytes live, and then the last one not.
 #[test]
 fn last_block_of_a_slab(rt: HostRuntime) -> Result<(), Fail> {
     let mut units = made(rt.alloc(), &[Span(FIRST, 3968)], &[])?;
-    assert_eq!(rt;
-        (first_clear(&units, 0, 0), first_clear(&units, 35, 0)),
-        (None, None)
-    );
-    assert_eq!(rt; units.used_blocks(4, 0)[61], u64::MAX);
-    units.clear(FIRST + 3967, 1);
-    assert_eq!(rt;
-        (first_clear(&units, 0, 0), first_clear(&units, 1, 0)),
-        (Some(3967), None)
-    );
-    assert_eq!(rt; units.used_blocks(4, 0)[61], u64::MAX >> 1);
-    assert!(rt; units.is_clear(FIRST - 1, 1) && units.is_clear(FIRST + 3967, 1));
+    clears_the_last_block(&rt, &mut units);
     Ok(())
+}
+
+fn clears_the_last_block<R: Abort>(rt: &R, units: &mut UnitMap)
+    requires { units.old.granules ≡ 16 }
+{
+    same(
+        rt,
+        &(first_clear(units, 0, 0), first_clear(units, 35, 0)),
+        &(None, None),
+    );
+    same(rt, &units.used_blocks(4, 0)[61], &u64::MAX);
+    units.clear(FIRST + 3967, 1);
+    same(
+        rt,
+        &(first_clear(units, 0, 0), first_clear(units, 1, 0)),
+        &(Some(3967), None),
+    );
+    same(rt, &units.used_blocks(4, 0)[61], &(u64::MAX >> 1));
+    assert!(rt; units.is_clear(FIRST - 1, 1) && units.is_clear(FIRST + 3967, 1));
 }

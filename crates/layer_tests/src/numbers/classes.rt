@@ -1,4 +1,5 @@
 // The edges of the classes.
+use crate::values::same;
 use size_classes::{capacity, class_of, granules, size_of_class};
 
 #[test]
@@ -13,9 +14,10 @@ fn edges_of_the_classes(rt: HostRuntime) {
     ] {
         assert_eq!(rt; class_of(size), class, "at {size}");
     }
-    assert_eq!(rt;
-        (size_of_class(8), capacity(8), capacity(35)),
-        (160, 396, 3)
+    same(
+        &rt,
+        &(size_of_class(8), capacity(8), capacity(35)),
+        &(160, 396, 3),
     );
-    assert_eq!(rt; granules(16385), 2);
+    same(&rt, &granules(16385), &2);
 }

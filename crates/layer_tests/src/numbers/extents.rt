@@ -1,8 +1,11 @@
 // Heaps of which some granules are taken and given back.
-ghost use Rattle.std.specs.Prelude.{◌≡◌, ◌<◌, ◌≤◌, length};
+ghost use Rattle.std.specs.Prelude.{◌≡◌, ℕ, ◌↔◌, ◌<◌, ◌≤◌, length};
+ghost use Rattle.extent_index.specs.FreeSet.{IsFree};
 
+use crate::values::same;
 use extent_index::{ExtentIndex, Steps, WordTable};
 use std::marker::Brand;
+use std::process::Abort;
 use std::sync::ledger::{Blank, Ledger};
 use std::test::Fail;
 
@@ -10,7 +13,19 @@ use std::test::Fail;
 #[test]
 fn best_fit_by_hand(rt: HostRuntime) -> Result<(), Fail> {
     let mut index = ExtentIndex::new(rt.alloc(), 32)?;
-    assert_eq!(rt; (index.best_fit(28), index.best_fit(29)), (Some(4), None));
+    fit_by_hand(&rt, &mut index);
+    Ok(())
+}
+
+fn fit_by_hand<R: Abort>(rt: &R, index: &mut ExtentIndex)
+    requires granules { index.old.granules ≡ 32 }
+    requires free { (k : ℕ) → IsFree index.old k ↔ ((4 ≤ k) × (k < 32)) }
+{
+    same(
+        rt,
+        &(index.best_fit(28), index.best_fit(29)),
+        &(Some(4), None),
+    );
     index.take(7, 3);
     index.take(14, 6);
     index.take(23, 7);
@@ -18,10 +33,13 @@ fn best_fit_by_hand(rt: HostRuntime) -> Result<(), Fail> {
         assert_eq!(rt; index.best_fit(granules), start, "for {granules}");
     }
     index.take(4, 2);
-    assert_eq!(rt; index.best_fit(1), Some(6));
+    same(rt, &index.best_fit(1), &Some(6));
     index.give(14, 6);
-    assert_eq!(rt; (index.best_fit(13), index.best_fit(14)), (Some(10), None));
-    Ok(())
+    same(
+        rt,
+        &(index.best_fit(13), index.best_fit(14)),
+        &(Some(10), None),
+    );
 }
 
 // The best fit by the call that counts its looks.
@@ -40,6 +58,14 @@ fn counted<L: Ledger>(index: &ExtentIndex, granules: u32, blank: Blank) -> Optio
 #[test]
 fn best_fit_in_words(rt: HostRuntime) -> Result<(), Fail> {
     let mut index = ExtentIndex::new(rt.alloc(), 1024)?;
+    fit_in_words(&rt, &mut index);
+    Ok(())
+}
+
+fn fit_in_words<R: Abort>(rt: &R, index: &mut ExtentIndex)
+    requires granules { index.old.granules ≡ 1024 }
+    requires free { (k : ℕ) → IsFree index.old k ↔ ((4 ≤ k) × (k < 1024)) }
+{
     index.take(4, 6);
     index.take(104, 920);
     index.take(54, 46);
@@ -53,38 +79,52 @@ fn best_fit_in_words(rt: HostRuntime) -> Result<(), Fail> {
     ] {
         assert_eq!(rt; index.best_fit(granules), start, "for {granules}");
     }
-    assert_eq!(rt; counted::<Brand>(&index, 3, Blank::new(1)), Some(50));
+    same(rt, &counted::<Brand>(index, 3, Blank::new(1)), &Some(50));
     index.give(15, 35);
     index.give(54, 46);
-    assert_eq!(rt; (index.best_fit(94), index.best_fit(95)), (Some(10), None));
-    Ok(())
+    same(
+        rt,
+        &(index.best_fit(94), index.best_fit(95)),
+        &(Some(10), None),
+    );
 }
 
 // The largest heap: one run, then two, of which one is cut in its middle and made whole again.
 #[test]
 fn best_fit_in_the_largest_heap(rt: HostRuntime) -> Result<(), Fail> {
     let mut index = ExtentIndex::new(rt.alloc(), 4096)?;
-    assert_eq!(rt;
-        (index.best_fit(4092), index.best_fit(4093)),
-        (Some(4), None)
+    fit_in_the_largest(&rt, &mut index);
+    Ok(())
+}
+
+fn fit_in_the_largest<R: Abort>(rt: &R, index: &mut ExtentIndex)
+    requires granules { index.old.granules ≡ 4096 }
+    requires free { (k : ℕ) → IsFree index.old k ↔ ((4 ≤ k) × (k < 4096)) }
+{
+    same(
+        rt,
+        &(index.best_fit(4092), index.best_fit(4093)),
+        &(Some(4), None),
     );
     index.take(2000, 1);
-    assert_eq!(rt;
-        (index.best_fit(1996), index.best_fit(2095)),
-        (Some(4), Some(2001))
+    same(
+        rt,
+        &(index.best_fit(1996), index.best_fit(2095)),
+        &(Some(4), Some(2001)),
     );
     index.take(3000, 95);
-    assert_eq!(rt;
-        (index.best_fit(999), index.best_fit(1001)),
-        (Some(2001), Some(3095))
+    same(
+        rt,
+        &(index.best_fit(999), index.best_fit(1001)),
+        &(Some(2001), Some(3095)),
     );
     index.give(3000, 95);
     index.give(2000, 1);
-    assert_eq!(rt;
-        (index.best_fit(4092), index.best_fit(4093)),
-        (Some(4), None)
+    same(
+        rt,
+        &(index.best_fit(4092), index.best_fit(4093)),
+        &(Some(4), None),
     );
-    Ok(())
 }
 
 // The last of so many words.
@@ -103,8 +143,14 @@ fn last_word<L: Ledger>(table: &WordTable, count: u32, blank: Blank) -> u64
 #[test]
 fn words_of_a_table(rt: HostRuntime) -> Result<(), Fail> {
     let mut table = WordTable::new(rt.alloc(), 16384)?;
-    assert_eq!(rt; last_word::<Brand>(&table, 16384, Blank::new(1)), 0);
-    table.put(64 * 16383 + 5, true);
-    assert_eq!(rt; last_word::<Brand>(&table, 16384, Blank::new(1)), 32);
+    puts_into_the_last(&rt, &mut table);
     Ok(())
+}
+
+fn puts_into_the_last<R: Abort>(rt: &R, table: &mut WordTable)
+    requires { length table.old ≡ 16384 }
+{
+    same(rt, &last_word::<Brand>(table, 16384, Blank::new(1)), &0);
+    table.put(64 * 16383 + 5, true);
+    same(rt, &last_word::<Brand>(table, 16384, Blank::new(1)), &32);
 }

@@ -1,4 +1,5 @@
 // Places of the log and of roots, by version.
+use crate::values::same;
 use pool_layout::{entry_at, heap_at, layout_of, root_at};
 
 // The place of an entry of a chunk, where both are in range.
@@ -36,19 +37,25 @@ fn places_of_entries(rt: HostRuntime) {
             "of entry {entry} of chunk {chunk} of version {version}"
         );
     }
-    assert_eq!(rt; (heap_at(1), heap_at(2)), (65536, 212_992));
+    same(&rt, &(heap_at(1), heap_at(2)), &(65536, 212_992));
 }
 
 // The log follows the last root.
 #[test]
 fn places_of_roots(rt: HostRuntime) {
-    assert_eq!(rt;
-        (root_at(0), root_at(4095), root_at(16383)),
-        (16384, 49144, 147_448)
+    same(
+        &rt,
+        &(root_at(0), root_at(4095), root_at(16383)),
+        &(16384, 49144, 147_448),
     );
-    assert_eq!(rt; (layout_of(1).roots, layout_of(2).roots), (4096, 16384));
-    assert_eq!(rt;
-        (layout_of(1).log_at, layout_of(2).log_at),
-        (49152, 147_456)
+    same(
+        &rt,
+        &(layout_of(1).roots, layout_of(2).roots),
+        &(4096, 16384),
+    );
+    same(
+        &rt,
+        &(layout_of(1).log_at, layout_of(2).log_at),
+        &(49152, 147_456),
     );
 }

@@ -1,5 +1,7 @@
 // Texts of defects.
 use pool_layout::Defect;
+use std::alloc::Global;
+use std::process::Abort;
 use std::test::Fail;
 
 #[test]
@@ -63,9 +65,14 @@ fn texts_of_defects(rt: HostRuntime) -> Result<(), Fail> {
         ),
     ];
     for (defect, text) in rows {
-        let mut line = Vec::new(rt.alloc());
-        defect.append_text(&mut line)?;
-        assert!(rt; line.as_slice() == text);
+        has_text(&rt, rt.alloc(), defect, text)?;
     }
+    Ok(())
+}
+
+fn has_text<R: Abort>(rt: &R, alloc: Global, defect: Defect, text: &[u8]) -> Result<(), Fail> {
+    let mut line = Vec::new(alloc);
+    defect.append_text(&mut line)?;
+    assert!(rt; line.as_slice() == text);
     Ok(())
 }

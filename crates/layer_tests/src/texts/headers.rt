@@ -1,6 +1,8 @@
 // Header lines: none, one of zeros, one of the format, and one of another version; and the images of pools.
+use crate::values::same;
 use pool_layout::{Defect, ImageFault, PoolHeader, header_of, image_words};
 use std::alloc::Global;
+use std::process::Abort;
 use std::test::Fail;
 
 // The first word of a header line.
@@ -9,32 +11,36 @@ const TEXT: u64 = 3550894020320384590;
 #[test]
 fn headers_of_images(rt: HostRuntime) {
     let mut words = [0; 8];
-    assert_eq!(rt;
-        header_of(&words[..0]),
-        Err(Defect::BadLength { have: 0, need: 64 })
+    same(
+        &rt,
+        &header_of(&words[..0]),
+        &Err(Defect::BadLength { have: 0, need: 64 }),
     );
-    assert_eq!(rt;
-        header_of(&words),
-        Err(Defect::BadHeader { word: 0, value: 0 })
+    same(
+        &rt,
+        &header_of(&words),
+        &Err(Defect::BadHeader { word: 0, value: 0 }),
     );
     words[0] = TEXT;
     words[1] = 281543696187393;
-    assert_eq!(rt;
-        header_of(&words),
-        Ok(PoolHeader {
+    same(
+        &rt,
+        &header_of(&words),
+        &Ok(PoolHeader {
             version: 1,
             number: 0,
             arenas: 1,
-            granules: 16
-        })
+            granules: 16,
+        }),
     );
     words[1] = 281543696187395;
-    assert_eq!(rt;
-        header_of(&words),
-        Err(Defect::BadHeader {
+    same(
+        &rt,
+        &header_of(&words),
+        &Err(Defect::BadHeader {
             word: 1,
-            value: 281543696187395
-        })
+            value: 281543696187395,
+        }),
     );
 }
 
@@ -95,6 +101,11 @@ fn headers_of_both_versions(rt: HostRuntime) {
 // Arenas of 16 granules with the header lines of a pool of 16: the text, and the word that says the arena's number.
 fn pool(alloc: Global, arenas: usize) -> Result<Vec<u8>, Fail> {
     let mut bytes = vec![in alloc; 0u8; arenas.min(16) * 262_144]?;
+    put_headers(&mut bytes);
+    Ok(bytes)
+}
+
+fn put_headers(bytes: &mut [u8]) {
     let mut number = 0;
     for arena in bytes.chunks_mut(262_144) {
         if arena.len() >= 64 {
@@ -103,21 +114,37 @@ fn pool(alloc: Global, arenas: usize) -> Result<Vec<u8>, Fail> {
             number = number.saturating_add(1);
         }
     }
-    Ok(bytes)
 }
 
 // Sixteen arenas are the most; one byte less is too short, for the whole.
 #[test]
 fn images_of_sixteen_arenas(rt: HostRuntime) -> Result<(), Fail> {
-    let bytes = pool(rt.alloc(), 16)?;
-    let Ok(words) = image_words(rt.alloc(), &bytes) else {
+    read_sixteen(&rt, rt.alloc())?;
+    read_fifteen(&rt, rt.alloc())
+}
+
+fn read_sixteen<R: Abort>(rt: &R, alloc: Global) -> Result<(), Fail> {
+    let bytes = pool(alloc, 16)?;
+    are_read(rt, alloc, &bytes);
+    Ok(())
+}
+
+fn are_read<R: Abort>(rt: &R, alloc: Global, bytes: &[u8]) {
+    let Ok(words) = image_words(alloc, bytes) else {
         panic!(rt; "no image");
     };
-    assert_eq!(rt; words.len(), 524_288);
+    are_those_of_sixteen(rt, &words);
+}
+
+fn are_those_of_sixteen<R: Abort>(rt: &R, words: &[u64]) {
+    same(rt, &words.len(), &524_288);
     let last = (words.get(491_520).copied(), words.get(491_521).copied());
-    assert_eq!(rt; last, (Some(TEXT), Some(0x0010_0010_000f_0001)));
-    let short = pool(rt.alloc(), 15)?;
-    assert!(rt; image_words(rt.alloc(), &short).is_err_and(is_short));
+    same(rt, &last, &(Some(TEXT), Some(0x0010_0010_000f_0001)));
+}
+
+fn read_fifteen<R: Abort>(rt: &R, alloc: Global) -> Result<(), Fail> {
+    let short = pool(alloc, 15)?;
+    assert!(rt; image_words(alloc, &short).is_err_and(is_short));
     Ok(())
 }
 

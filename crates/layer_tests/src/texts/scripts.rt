@@ -1,9 +1,11 @@
 // Scripts of a dictionary in and outside the grammar, and what is printed of them.
+use crate::values::same;
 use dict_text::{
     PlainReply, Script, ScriptCall, read_script, write_pair_line, write_reply, write_size,
     write_value,
 };
 use std::alloc::Global;
+use std::process::Abort;
 use std::test::Fail;
 use trace_text::{CrashSide, TextFault, write_crash_line};
 
@@ -71,6 +73,10 @@ fn says_its_script(rt: HostRuntime) {
     let Ok(script) = read_script(rt.alloc(), text) else {
         panic!(rt; "no script");
     };
+    has_five_calls(&rt, &script);
+}
+
+fn has_five_calls<R: Abort>(rt: &R, script: &Script) {
     let calls = [
         ScriptCall::Put {
             key: 7,
@@ -90,19 +96,24 @@ fn says_its_script(rt: HostRuntime) {
         },
         ScriptCall::Del { key: 9 },
     ];
-    assert_eq!(rt; script.granules, 16);
-    assert_eq!(rt; script.calls.as_slice(), &calls[..]);
-    assert_eq!(rt; script.values.as_slice(), &[1, 2, 3][..]);
+    same(rt, &script.granules, &16);
+    same(rt, &script.calls.as_slice(), &&calls[..]);
+    same(rt, &script.values.as_slice(), &&[1, 2, 3][..]);
 }
 
 // A put of so many words behind the line of the size.
 fn long_put(alloc: Global, words: u32) -> Result<Vec<u8>, Fail> {
     let mut text = Vec::new(alloc);
+    write_long_put(&mut text, words)?;
+    Ok(text)
+}
+
+fn write_long_put(text: &mut Vec<u8>, words: u32) -> Result<(), Fail> {
     text.extend_from_slice(b"dict 16\nput 7")?;
     for _ in 0..words {
         text.extend_from_slice(b" 5")?;
     }
-    Ok(text)
+    Ok(())
 }
 
 #[test]
@@ -117,6 +128,11 @@ fn most_words_of_a_value(rt: HostRuntime) -> Result<(), Fail> {
 
 #[test]
 fn prints_a_dictionary(rt: HostRuntime) -> Result<(), Fail> {
+    let mut out = Vec::new(rt.alloc());
+    print_a_dictionary(&rt, &mut out)
+}
+
+fn print_a_dictionary<R: Abort>(rt: &R, out: &mut Vec<u8>) -> Result<(), Fail> {
     let replies = [
         PlainReply::Stored,
         PlainReply::Full,
@@ -124,18 +140,17 @@ fn prints_a_dictionary(rt: HostRuntime) -> Result<(), Fail> {
         PlainReply::Absent,
         PlainReply::Removed,
     ];
-    let mut out = Vec::new(rt.alloc());
     for reply in replies {
-        write_reply(&mut out, reply)?;
+        write_reply(out, reply)?;
     }
-    write_value(&mut out, &[1, u64::MAX])?;
-    write_value(&mut out, &[])?;
-    write_crash_line(&mut out, 3, CrashSide::After)?;
-    write_size(&mut out, 2)?;
-    write_pair_line(&mut out, 0, &[])?;
-    write_pair_line(&mut out, u64::MAX, &[3, 0])?;
+    write_value(out, &[1, u64::MAX])?;
+    write_value(out, &[])?;
+    write_crash_line(out, 3, CrashSide::After)?;
+    write_size(out, 2)?;
+    write_pair_line(out, 0, &[])?;
+    write_pair_line(out, u64::MAX, &[3, 0])?;
     let want =
         b"stored\nfull\nno space\nabsent\nremoved\nvalue 1 18446744073709551615\nvalue\ncall 3 after\nsize 2\n0\n18446744073709551615 3 0\n";
-    assert_eq!(rt; out.as_slice(), &want[..]);
+    same(rt, &out.as_slice(), &&want[..]);
     Ok(())
 }

@@ -1,7 +1,9 @@
 // Texts in and outside the grammar.
+use crate::values::same;
 use heap_model::Call;
 use std::alloc::Global;
-use trace_text::{TextFault, TraceCall, read_still_trace, read_trace};
+use std::process::Abort;
+use trace_text::{TextFault, Trace, TraceCall, read_still_trace, read_trace};
 
 // The number of the line, and the greatest one where there was no memory.
 fn line_of(fault: TextFault) -> u64 {
@@ -106,7 +108,15 @@ fn says_its_calls(rt: HostRuntime) {
     let Ok(trace) = read_trace(rt.alloc(), text) else {
         panic!(rt; "no trace");
     };
-    assert_eq!(rt; (trace.version, trace.arenas, trace.granules), (1, 1, 960));
+    has_two_calls(&rt, &trace);
+}
+
+fn has_two_calls<R: Abort>(rt: &R, trace: &Trace) {
+    same(
+        rt,
+        &(trace.version, trace.arenas, trace.granules),
+        &(1, 1, 960),
+    );
     let calls = [
         TraceCall {
             thread: 63,
@@ -122,7 +132,7 @@ fn says_its_calls(rt: HostRuntime) {
             call: Call::Free { root: 7 },
         },
     ];
-    assert_eq!(rt; trace.calls.as_slice(), &calls[..]);
+    same(rt, &trace.calls.as_slice(), &&calls[..]);
 }
 
 #[test]
@@ -130,8 +140,9 @@ fn says_its_pool(rt: HostRuntime) {
     let Ok(trace) = read_trace(rt.alloc(), b"pool2 16 1033") else {
         panic!(rt; "no trace");
     };
-    assert_eq!(rt;
-        (trace.version, trace.arenas, trace.granules),
-        (2, 16, 1033)
+    same(
+        &rt,
+        &(trace.version, trace.arenas, trace.granules),
+        &(2, 16, 1033),
     );
 }

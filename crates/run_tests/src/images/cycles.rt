@@ -4,6 +4,7 @@ use crate::runs::{ends_and_writes, tells};
 use crate::traces::{
     CLASSES_TAKEN, MIXED, REPEATS, ROLLS, SIXTEEN_ARENAS, TWO_ARENAS, writes_anew,
 };
+use crate::values::same;
 use nvheap::Status;
 use std::alloc::Global;
 use std::sync::Wait;
@@ -31,7 +32,11 @@ fn reads_heaps_off_a_report(rt: HostRuntime) -> Result<(), Fail> {
     let report =
         "arena 0 calls 1\n0 m 5 1 placed 8 16\nheap 1\n5 8 16\narena 1 calls 1\n0 f 0 empty\nheap 0\n";
     let heaps = heaps_of(rt.alloc(), report)?;
-    assert_eq!(rt; heaps.as_str(), "arena 0 heap 1\n5 8 16\narena 1 heap 0\n");
+    same(
+        &rt,
+        &heaps.as_str(),
+        &("arena 0 heap 1\n5 8 16\narena 1 heap 0\n"),
+    );
     Ok(())
 }
 
@@ -210,9 +215,13 @@ const ANEW: [Run; 17] = [
 fn log_written_anew(rt: HostRuntime) -> Result<(), Fail> {
     let trace = writes_anew(rt.alloc(), 1)?;
     let (ended, image) = ends_and_writes(&rt, rt.alloc(), "image", trace.as_bytes())?;
-    assert_eq!(rt; ended, Status::Done);
-    assert_eq!(rt; image.get(16..24), Some(&[9, 0, 0, 0, 0, 0, 0, 0][..]));
+    same(&rt, &ended, &Status::Done);
+    same(
+        &rt,
+        &image.get(16..24),
+        &Some(&[9, 0, 0, 0, 0, 0, 0, 0][..]),
+    );
     let chunk = image_of(rt.alloc(), 1024, &ANEW)?;
-    assert_eq!(rt; image.get(57344..58368), Some(chunk.as_slice()));
+    same(&rt, &image.get(57344..58368), &Some(chunk.as_slice()));
     Ok(())
 }

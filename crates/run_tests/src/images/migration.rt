@@ -4,6 +4,7 @@ use crate::images::second_version::LAST_ROOT;
 use crate::images::{ONE_BLOCK, Run, TOO_SHORT, both_tell, image_of, put};
 use crate::runs::{all_tell, ends_and_writes, tells};
 use crate::traces::{ROLLS, writes_anew};
+use crate::values::same;
 use nvheap::Status;
 use std::alloc::{AllocError, Global};
 use std::process::Abort;
@@ -19,7 +20,7 @@ fn migrated<R: Abort + Threads + Wait + Sync>(
     image: &[u8],
 ) -> Result<Vec<u8>, Fail> {
     let (ended, bytes) = ends_and_writes(rt, alloc, "migrate", image)?;
-    assert_eq!(rt; ended, Status::Done);
+    same(rt, &ended, &Status::Done);
     Ok(bytes)
 }
 
@@ -133,7 +134,11 @@ fn loose_things_are_settled(rt: HostRuntime) -> Result<(), Fail> {
 fn images_with_a_defect(rt: HostRuntime) -> Result<(), Fail> {
     for (size, line) in TOO_SHORT {
         let bytes = image_of(rt.alloc(), size, &ONE_BLOCK)?;
-        assert_eq!(rt; tells(&rt, rt.alloc(), "migrate", &bytes)?.1.as_str(), line);
+        same(
+            &rt,
+            &tells(&rt, rt.alloc(), "migrate", &bytes)?.1.as_str(),
+            &line,
+        );
     }
     let mut stray = image_of(rt.alloc(), 262_144, &ONE_BLOCK)?;
     put(&mut stray, 16432, &[16, 8, 1]);

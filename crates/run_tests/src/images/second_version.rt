@@ -2,6 +2,7 @@
 // ranges.
 use crate::images::{Run, all_tell_of, image_of};
 use crate::runs::{ends_and_writes, halves};
+use crate::values::same;
 use nvheap::Status;
 use std::alloc::{AllocError, Global};
 use std::test::Fail;
@@ -50,7 +51,7 @@ fn image_of_a_trace(rt: HostRuntime) -> Result<(), Fail> {
     let wanted = image_of(rt.alloc(), 409_600, &LAST_ROOT)?;
     let trace = b"pool2 1 25\n0 0 m 16383 100\n";
     let (ended, image) = ends_and_writes(&rt, rt.alloc(), "image", trace)?;
-    assert_eq!(rt; ended, Status::Done);
+    same(&rt, &ended, &Status::Done);
     assert!(rt; image == wanted);
     Ok(())
 }
@@ -76,9 +77,13 @@ fn log_written_anew(rt: HostRuntime) -> Result<(), Fail> {
     let (_, last) = traces.rsplit_once("----\n").ok_or("no trace")?;
     let (trace, _) = halves(last, '$');
     let (ended, image) = ends_and_writes(&rt, rt.alloc(), "image", trace.as_bytes())?;
-    assert_eq!(rt; ended, Status::Done);
-    assert_eq!(rt; image.get(16..24), Some(&[9, 0, 0, 0, 0, 0, 0, 0][..]));
+    same(&rt, &ended, &Status::Done);
+    same(
+        &rt,
+        &image.get(16..24),
+        &Some(&[9, 0, 0, 0, 0, 0, 0, 0][..]),
+    );
     let chunk = chunk_anew(rt.alloc())?;
-    assert_eq!(rt; image.get(180_224..184_320), Some(chunk.as_slice()));
+    same(&rt, &image.get(180_224..184_320), &Some(chunk.as_slice()));
     Ok(())
 }

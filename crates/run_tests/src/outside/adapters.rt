@@ -1,6 +1,7 @@
 // Runs from readers and to writers of the standard library.
 use crate::outside::{REPORT, TRACE};
 use crate::runs::ends;
+use crate::values::same;
 use nvheap::{Adapter, Status};
 use std::io;
 use std::io::Read;
@@ -28,8 +29,8 @@ fn reads_piece_by_piece_and_writes(rt: HostRuntime) -> Result<(), Fail> {
     let mut written = Vec::new(rt.alloc());
     let mut sink = Adapter::new(&mut written);
     let status = ends(&rt, rt.alloc(), "replay", &mut source, &mut sink)?;
-    assert_eq!(rt; status, Status::Done);
-    assert_eq!(rt; written.as_slice(), REPORT.as_bytes());
+    same(&rt, &status, &Status::Done);
+    same(&rt, &written.as_slice(), &REPORT.as_bytes());
     Ok(())
 }
 
@@ -41,8 +42,8 @@ fn a_reader_that_fails_is_a_read_fault(rt: HostRuntime) -> Result<(), Fail> {
     let mut written = Vec::new(rt.alloc());
     let mut sink = Adapter::new(&mut written);
     let status = ends(&rt, rt.alloc(), "replay", &mut source, &mut sink)?;
-    assert_eq!(rt; status, Status::ReadFault);
-    assert_eq!(rt; written.len(), 0);
+    same(&rt, &status, &Status::ReadFault);
+    same(&rt, &written.len(), &0);
     Ok(())
 }
 
@@ -53,7 +54,7 @@ fn a_writer_without_room_is_a_write_fault(rt: HostRuntime) -> Result<(), Fail> {
     let mut room = [0u8; 10];
     let mut sink = Adapter::new(&mut room[..]);
     let status = ends(&rt, rt.alloc(), "replay", &mut source, &mut sink)?;
-    assert_eq!(rt; status, Status::WriteFault);
-    assert_eq!(rt; room.as_slice(), b"arena 0 ca".as_slice());
+    same(&rt, &status, &Status::WriteFault);
+    same(&rt, &room.as_slice(), &(b"arena 0 ca".as_slice()));
     Ok(())
 }

@@ -3,6 +3,7 @@ ghost use Rattle.std.specs.Prelude.{None};
 
 use crate::outside::TRACE;
 use crate::runs::ends;
+use crate::values::same;
 use nvheap::{Failed, MemSink, MemSource, Source, Status, SureSource};
 use std::alloc::Global;
 use std::process::Abort;
@@ -44,8 +45,8 @@ fn tells_a_read_fault(rt: HostRuntime) -> Result<(), Fail> {
     let mut source = MemSource::new(TRACE.as_bytes(), &[1]);
     let mut sink = MemSink::new(rt.alloc(), &[], usize::MAX);
     let status = ends(&rt, rt.alloc(), "replay", &mut source, &mut sink)?;
-    assert_eq!(rt; status, Status::ReadFault);
-    assert_eq!(rt; sink.bytes().len(), 0);
+    same(&rt, &status, &Status::ReadFault);
+    same(&rt, &sink.bytes().len(), &0);
     Ok(())
 }
 
@@ -54,8 +55,8 @@ fn tells_a_write_fault(rt: HostRuntime) -> Result<(), Fail> {
     let mut source = SureSource::new(TRACE.as_bytes());
     let mut sink = MemSink::new(rt.alloc(), &[1], 10);
     let status = ends(&rt, rt.alloc(), "replay", &mut source, &mut sink)?;
-    assert_eq!(rt; status, Status::WriteFault);
-    assert_eq!(rt; sink.bytes(), b"arena 0 ca".as_slice());
+    same(&rt, &status, &Status::WriteFault);
+    same(&rt, &sink.bytes(), &(b"arena 0 ca".as_slice()));
     Ok(())
 }
 
@@ -103,9 +104,9 @@ fn reads_nothing_where_the_words_are_none(rt: HostRuntime) -> Result<(), Fail> {
     let mut source = Repeated::new(b'\n', 5);
     let mut sink = MemSink::new(rt.alloc(), &[], usize::MAX);
     let status = ends(&rt, rt.alloc(), "replay image", &mut source, &mut sink)?;
-    assert_eq!(rt; status, Status::Usage);
-    assert_eq!(rt; source.given, 0);
-    assert_eq!(rt; sink.bytes().len(), 0);
+    same(&rt, &status, &Status::Usage);
+    same(&rt, &source.given, &0);
+    same(&rt, &sink.bytes().len(), &0);
     Ok(())
 }
 
@@ -121,6 +122,6 @@ fn has_codes(rt: HostRuntime) {
         (Status::TooLong, 6),
     ];
     for (status, code) in rows {
-        assert_eq!(rt; status.code(), code);
+        same(&rt, &status.code(), &code);
     }
 }

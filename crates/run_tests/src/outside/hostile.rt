@@ -3,6 +3,7 @@
 use crate::images::{TOO_SHORT, both_tell, put};
 use crate::outside::{REPORT, TRACE};
 use crate::runs::{ends, ends_and_writes};
+use crate::values::same;
 use nvheap::{Adapter, MemSink, Status, SureSource};
 use std::io;
 use std::io::Read;
@@ -12,7 +13,7 @@ use std::test::Fail;
 #[test]
 fn a_cut_image(rt: HostRuntime) -> Result<(), Fail> {
     let (_, image) = ends_and_writes(&rt, rt.alloc(), "image", TRACE.as_bytes())?;
-    assert_eq!(rt; image.len(), 262_144);
+    same(&rt, &image.len(), &262_144);
     for (size, line) in TOO_SHORT {
         let front = image.get(..size).unwrap_or(&[]);
         both_tell(&rt, rt.alloc(), "a front", front, 2, line, line)?;
@@ -24,7 +25,7 @@ fn a_cut_image(rt: HostRuntime) -> Result<(), Fail> {
 #[test]
 fn a_patched_image(rt: HostRuntime) -> Result<(), Fail> {
     let (_, image) = ends_and_writes(&rt, rt.alloc(), "image", b"pool 2 16\n")?;
-    assert_eq!(rt; image.len(), 524_288);
+    same(&rt, &image.len(), &524_288);
     let first = image.get(..262_144).unwrap_or(&[]);
     let line = "bad length 262144 524288\n";
     both_tell(&rt, rt.alloc(), "one of two", first, 2, line, line)?;

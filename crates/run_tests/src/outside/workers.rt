@@ -2,6 +2,7 @@
 ghost use Rattle.std.specs.Prelude.{◌<◌, length, IfSome};
 
 use crate::runs::ends_with;
+use crate::values::same;
 use nvheap::{Gate, KeptShelf, Status};
 use shared_pool::Pass;
 use std::alloc::Global;
@@ -79,9 +80,9 @@ fn at_the_same_time<R: Abort + Threads + Wait + Sync>(
     let mut shelf = KeptShelf::new(alloc)?;
     let trace = TWO_THREADS.as_bytes();
     let (status, written) = ends_with(rt, alloc, word, trace, &gate, &mut shelf)?;
-    assert_eq!(rt; status, Status::Done);
-    assert_eq!(rt; gate.gave_up.load(Ordering::SeqCst), 0);
-    assert_eq!(rt; gate.odd.load(Ordering::SeqCst), 0);
+    same(rt, &status, &Status::Done);
+    same(rt, &gate.gave_up.load(Ordering::SeqCst), &0);
+    same(rt, &gate.odd.load(Ordering::SeqCst), &0);
     let report = str::from_utf8(&written)?;
     assert!(rt; report.starts_with("arena 0 calls 4\n"));
     assert!(rt; report.contains("\nheap 2\n5 "));

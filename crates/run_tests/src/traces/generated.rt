@@ -1,5 +1,6 @@
 // Generated work: what it prints, and what it leaves.
 use crate::runs::{all_tell, ends, ends_with};
+use crate::values::same;
 use nvheap::{KeptShelf, MemSink, MemSource, OpenGate, Status};
 use pmem_lines::Pmem;
 use std::process::Abort;
@@ -80,9 +81,10 @@ fn nothing_is_read(rt: HostRuntime) -> Result<(), Fail> {
     let alloc = rt.alloc();
     let mut source = MemSource::new(b"", &[0]);
     let mut sink = MemSink::new(alloc, &[], usize::MAX);
-    assert_eq!(rt;
-        ends(&rt, alloc, "gen 5 5", &mut source, &mut sink)?,
-        Status::Done
+    same(
+        &rt,
+        &ends(&rt, alloc, "gen 5 5", &mut source, &mut sink)?,
+        &Status::Done,
     );
     Ok(())
 }
@@ -102,10 +104,10 @@ fn devices_stay(rt: HostRuntime) -> Result<(), Fail> {
     let alloc = rt.alloc();
     let mut shelf = KeptShelf::new(alloc)?;
     let (status, _) = ends_with(&rt, alloc, "gen 1 0", b"", &OpenGate, &mut shelf)?;
-    assert_eq!(rt; status, Status::Done);
-    assert_eq!(rt; root_at(&shelf, 0, 431), Some(67584));
-    assert_eq!(rt; root_at(&shelf, 1, 431), Some(0));
-    assert_eq!(rt; root_at(&shelf, 3, 431), Some(0));
-    assert_eq!(rt; root_at(&shelf, 4, 431), None);
+    same(&rt, &status, &Status::Done);
+    same(&rt, &root_at(&shelf, 0, 431), &Some(67584));
+    same(&rt, &root_at(&shelf, 1, 431), &Some(0));
+    same(&rt, &root_at(&shelf, 3, 431), &Some(0));
+    same(&rt, &root_at(&shelf, 4, 431), &None);
     Ok(())
 }

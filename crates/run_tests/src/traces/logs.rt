@@ -1,6 +1,7 @@
 // Runs in which the log of an arena is full: it drops a chunk, or is written anew.
 use crate::runs::{tells, word_after};
 use crate::traces::{REPEATS, ROLLS, around_sixteen, writes_anew};
+use crate::values::same;
 use std::test::Fail;
 use worked_runs::expanded;
 
@@ -13,7 +14,7 @@ fn leaves_the_directory(rt: HostRuntime) -> Result<(), Fail> {
     for (text, directory) in [(ROLLS, 2), (anew.as_str(), 9), (REPEATS, 0x0301)] {
         let trace = expanded(rt.alloc(), text)?;
         let word = word_after(&rt, rt.alloc(), "replay", &trace, DIRECTORY_AT)?;
-        assert_eq!(rt; word, Some(directory));
+        same(&rt, &word, &Some(directory));
     }
     Ok(())
 }
@@ -50,7 +51,7 @@ fn counts_the_events_of_the_log(rt: HostRuntime) -> Result<(), Fail> {
 fn places_blocks_behind_the_log(rt: HostRuntime) -> Result<(), Fail> {
     let trace = writes_anew(rt.alloc(), 1)?;
     let (code, report) = tells(&rt, rt.alloc(), "replay", trace.as_bytes())?;
-    assert_eq!(rt; code, 0);
+    same(&rt, &code, &0);
     let heap = around_sixteen(rt.alloc(), "heap 17\n", "101 589824 32768\n")?;
     assert!(rt; report.as_str().ends_with(heap.as_str()));
     Ok(())

@@ -1,11 +1,13 @@
 // Logs that are filled entry by entry, chunk by chunk, until room is made for the last time, in both versions.
-ghost use Rattle.std.specs.Prelude.{◌≡◌, ◌+◌, ◌%◌, ◌<◌, ◌≤◌};
+ghost use Rattle.std.specs.Prelude.{◌≡◌, ◌+◌, ◌*◌, ◌%◌, ◌<◌, ◌≤◌};
+ghost use Rattle.pmem_lines.specs.Pmem.{IsZeroed};
+ghost use Rattle.pool_layout.specs.Layout.{layout_of, IsLayout};
 
 use book_log::{BookLog, LogEntry};
 use durable_steps::write_word;
 use log_room::{Rolled, make_room};
 use pmem_lines::{OutOfMemory, Pmem, SimPmem};
-use pool_layout::{directory_at, fields_at, layout_of};
+use pool_layout::{Layout, directory_at, fields_at, layout_of};
 use std::alloc::Global;
 use std::process::Abort;
 use std::test::Fail;
@@ -51,28 +53,61 @@ fn filled(
 ) -> Result<Outcome, OutOfMemory> {
     let row = layout_of(u32::from(version));
     let mut device = SimPmem::zeroed(alloc, 256 * row.first_granule, row.entry_events)?;
-    write_word(&mut device, fields_at(), u64::from(version));
-    write_word(&mut device, directory_at(), 1);
+    filled_on(alloc, &mut device, row, version, chunks, count)
+}
+
+// The same on such a memory of zeros.
+fn filled_on(
+    alloc: Global,
+    device: &mut SimPmem,
+    row: Layout,
+    version: u16,
+    chunks: &[Named],
+    count: u32,
+) -> Result<Outcome, OutOfMemory>
+    requires row { row ≡ layout_of version }
+    requires rules { IsLayout row }
+    requires zeroed { IsZeroed device.old (256 * row.first_granule) row.entry_events }
+{
     let mut log = BookLog::new(alloc, row.most_granules)?;
-    log.load(&device);
+    Ok(fill(&mut log, device, row, version, chunks, count))
+}
+
+// The same with a log that has not read it.
+fn fill(
+    log: &mut BookLog,
+    device: &mut SimPmem,
+    row: Layout,
+    version: u16,
+    chunks: &[Named],
+    count: u32,
+) -> Outcome
+    requires row { row ≡ layout_of version }
+    requires rules { IsLayout row }
+    requires zeroed { IsZeroed device.old (256 * row.first_granule) row.entry_events }
+    requires granules { log.old.granules ≡ row.most_granules }
+{
+    write_word(device, fields_at(), u64::from(version));
+    write_word(device, directory_at(), 1);
+    log.load(device);
     let mut made = Rolled::Nothing;
     let mut events = 0;
     for i in 0..count {
         device.begin();
-        made = make_room(&mut log, &mut device);
+        made = make_room(log, device);
         events = device.event_count();
         let entry = LogEntry::Large {
             start: start(chunks, row.chunk_entries, i),
             granules: 2,
         };
-        log.append(&mut device, entry);
+        log.append(device, entry);
     }
     let directory = device.load(directory_at());
-    Ok(Outcome {
+    Outcome {
         made,
         events,
         directory,
-    })
+    }
 }
 
 // Each chunk names two extents of its own, or 20, or 63: in eight chunks 16 are live, or 160, or 504.

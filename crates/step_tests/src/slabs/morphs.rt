@@ -1,9 +1,10 @@
 // Slabs that take another class, on a simulated memory of 16 granules. The slab begins at granule 4.
 ghost use Rattle.std.specs.Prelude.{◌≡◌, ◌*◌, ◌≤◌, length, IfOk};
 ghost use Rattle.pmem_lines.specs.Events.{IsQuiet};
-ghost use Rattle.pmem_lines.specs.Pmem.{words_of, HasRoom};
+ghost use Rattle.pmem_lines.specs.Pmem.{words_of, HasRoom, IsZeroed};
 
 use crate::steps::events::{flush, has_events, store};
+use crate::values::same;
 use durable_steps::write_word;
 use pmem_lines::{Event, OutOfMemory, Pmem, SimPmem};
 use rand_core::SeedableRng;
@@ -12,6 +13,7 @@ use size_classes::capacity;
 use slab_header::{SlabState, bit_at, make_slab, put_bit, state_of};
 use slab_morph::{finish_morph, finish_old, fit, morph, overlaps};
 use std::alloc::Global;
+use std::process::Abort;
 use std::test::Fail;
 
 const SLAB: u32 = 65536;
@@ -81,12 +83,19 @@ fn is_fit<P: Pmem>(p: &P, class: u8) -> Option<bool>
 // Whether a slab of a class with so many blocks is fit for another class.
 fn fit_with(alloc: Global, own: u8, count: u32, class: u8) -> Result<Option<bool>, OutOfMemory> {
     let mut device = SimPmem::zeroed(alloc, 4096, 400)?;
+    Ok(fit_on(&mut device, own, count, class))
+}
+
+// The same on a memory of zeros.
+fn fit_on(device: &mut SimPmem, own: u8, count: u32, class: u8) -> Option<bool>
+    requires { IsZeroed device.old 4096 400 }
+{
     if own >= 36 {
-        return Ok(None);
+        return None;
     }
-    make_slab(&mut device, SLAB, own);
-    put_bits(&mut device, count);
-    Ok(is_fit(&device, class))
+    make_slab(device, SLAB, own);
+    put_bits(device, count);
+    is_fit(device, class)
 }
 
 // Exactly a fifth of the capacity, and one more; 64 blocks, and one more; the slab's own class; and classes of which no
@@ -134,14 +143,20 @@ fn fit_at_the_bounds(rt: HostRuntime) -> Result<(), Fail> {
 #[test]
 fn fit_where_there_is_room(rt: HostRuntime) -> Result<(), Fail> {
     let mut device = SimPmem::zeroed(rt.alloc(), 4096, 400)?;
-    make_slab(&mut device, SLAB, 3);
+    are_put_while_there_is_room(&rt, &mut device);
+    Ok(())
+}
+
+fn are_put_while_there_is_room<R: Abort>(rt: &R, device: &mut SimPmem)
+    requires { IsZeroed device.old 4096 400 }
+{
+    make_slab(device, SLAB, 3);
     for (number, expected) in [(0, true), (256, true), (512, false)] {
         if number < 4096 && device.left() >= 2 && device.size_words() >= 8448 {
-            put_bit(&mut device, SLAB, number, true);
-            assert_eq!(rt; is_fit(&device, 35), Some(expected), "with {number}");
+            put_bit(device, SLAB, number, true);
+            assert_eq!(rt; is_fit(device, 35), Some(expected), "with {number}");
         }
     }
-    Ok(())
 }
 
 // A slab with this state word and these bits of its first eight blocks.
@@ -178,9 +193,16 @@ fn take_class<P: Pmem>(p: &mut P, class: u8, number: u32)
 #[test]
 fn class_3_takes_class_19(rt: HostRuntime) -> Result<(), Fail> {
     let mut device = slab_with(rt.alloc(), 0x0301, 1)?;
+    take_class_19(&rt, rt.alloc(), &mut device)
+}
+
+fn take_class_19<R: Abort>(rt: &R, alloc: Global, device: &mut SimPmem) -> Result<(), Fail>
+    requires size { length (words_of device.old) ≡ 32768 }
+    requires quiet { IsQuiet device.old.events }
+{
     device.begin();
-    take_class(&mut device, 19, 0);
-    assert_eq!(rt; device.event_count(), 82);
+    take_class(device, 19, 0);
+    same(rt, &device.event_count(), &82);
     let events = [
         (0, store(ENTRY, 1)),
         (1, flush(1033)),
@@ -197,20 +219,25 @@ fn class_3_takes_class_19(rt: HostRuntime) -> Result<(), Fail> {
         (80, flush(1024)),
         (81, Event::Fence),
     ];
-    has_events(&rt, &device, &events);
+    has_events(rt, device, &events);
     for seed in 0..8u64 {
         if device.event_count() >= 4 {
             let mut picks = SplitMix64::from_seed(seed.to_le_bytes());
-            let words = device.image(rt.alloc(), 4, &mut picks)?;
-            let state = words.get(8192).copied();
-            assert!(rt; state == Some(0x0301) || state == Some(0x0103_1302));
-            assert_eq!(rt;
-                (words.get(8200).copied(), words.get(8264).copied()),
-                (Some(1), Some(1))
-            );
+            let words = device.image(alloc, 4, &mut picks)?;
+            holds_block_0(rt, &words);
         }
     }
     Ok(())
+}
+
+fn holds_block_0<R: Abort>(rt: &R, words: &[u64]) {
+    let state = words.get(8192).copied();
+    assert!(rt; state == Some(0x0301) || state == Some(0x0103_1302));
+    same(
+        rt,
+        &(words.get(8200).copied(), words.get(8264).copied()),
+        &(Some(1), Some(1)),
+    );
 }
 
 // A slab on its way to its class comes to it.
@@ -243,19 +270,44 @@ fn settle<P: Pmem>(p: &mut P)
 // it would be fit; with one it is not.
 #[test]
 fn a_transition_ends(rt: HostRuntime) -> Result<(), Fail> {
-    let mut device = slab_with(rt.alloc(), 0x0103_1302, 7)?;
-    assert_eq!(rt;
-        (is_fit(&device, 0), is_fit(&device, 19)),
-        (Some(true), Some(false))
-    );
-    write_word(&mut device, ENTRY, 1);
-    assert_eq!(rt; is_fit(&device, 0), Some(false));
-    device.begin();
-    arrive(&mut device);
-    assert_eq!(rt; device.event_count(), 76);
-    let mut left = slab_with(rt.alloc(), 0x0103_1303, 0)?;
-    left.begin();
-    settle(&mut left);
-    assert_eq!(rt; (left.event_count(), left.load(SLAB)), (3, 0x1301));
+    end_on_its_way(&rt, rt.alloc())?;
+    end_without_old_blocks(&rt, rt.alloc())
+}
+
+fn end_on_its_way<R: Abort>(rt: &R, alloc: Global) -> Result<(), Fail> {
+    let mut device = slab_with(alloc, 0x0103_1302, 7)?;
+    comes_to_its_class(rt, &mut device);
     Ok(())
+}
+
+fn comes_to_its_class<R: Abort>(rt: &R, device: &mut SimPmem)
+    requires size { length (words_of device.old) ≡ 32768 }
+    requires quiet { IsQuiet device.old.events }
+    requires room { HasRoom device.old 3 }
+{
+    same(
+        rt,
+        &(is_fit(device, 0), is_fit(device, 19)),
+        &(Some(true), Some(false)),
+    );
+    write_word(device, ENTRY, 1);
+    same(rt, &is_fit(device, 0), &Some(false));
+    device.begin();
+    arrive(device);
+    same(rt, &device.event_count(), &76);
+}
+
+fn end_without_old_blocks<R: Abort>(rt: &R, alloc: Global) -> Result<(), Fail> {
+    let mut device = slab_with(alloc, 0x0103_1303, 0)?;
+    becomes_normal(rt, &mut device);
+    Ok(())
+}
+
+fn becomes_normal<R: Abort>(rt: &R, device: &mut SimPmem)
+    requires size { length (words_of device.old) ≡ 32768 }
+    requires quiet { IsQuiet device.old.events }
+{
+    device.begin();
+    settle(device);
+    same(rt, &(device.event_count(), device.load(SLAB)), &(3, 0x1301));
 }

@@ -1,6 +1,10 @@
 // Write-ahead entries, as words and on a device.
+ghost use Rattle.pmem_lines.specs.Pmem.{IsZeroed};
+
+use crate::values::same;
 use attach_wal::{WalEntry, close_entry, entry_of, entry_word, write_entry};
 use pmem_lines::{Pmem, SimPmem};
+use std::process::Abort;
 use std::test::Fail;
 
 const ATTACHED: WalEntry = WalEntry::Place {
@@ -36,18 +40,24 @@ fn words_of_entries(rt: HostRuntime) {
     for (word, entry) in rows {
         assert_eq!(rt; entry_of(word), entry, "at {word}");
     }
-    assert_eq!(rt; entry_word(ATTACHED), 0x0001_0800_0005_0001);
-    assert_eq!(rt; entry_word(OLD), 0x0001_0800_ffff_3f03);
-    assert_eq!(rt; entry_word(MOVED), 38_655_033_349);
+    same(&rt, &entry_word(ATTACHED), &0x0001_0800_0005_0001);
+    same(&rt, &entry_word(OLD), &0x0001_0800_ffff_3f03);
+    same(&rt, &entry_word(MOVED), &38_655_033_349);
 }
 
 #[test]
 fn opens_and_closes(rt: HostRuntime) -> Result<(), Fail> {
     let mut device = SimPmem::zeroed(rt.alloc(), 4096, 6)?;
-    write_entry(&mut device, 3, ATTACHED);
-    assert_eq!(rt; device.load(704), 0x0001_0800_0005_0001);
-    close_entry(&mut device, 3);
-    assert_eq!(rt; device.load(704), 0);
-    assert_eq!(rt; device.event_count(), 6);
+    open_and_close(&rt, &mut device);
     Ok(())
+}
+
+fn open_and_close<R: Abort>(rt: &R, device: &mut SimPmem)
+    requires { IsZeroed device.old 4096 6 }
+{
+    write_entry(device, 3, ATTACHED);
+    same(rt, &device.load(704), &0x0001_0800_0005_0001);
+    close_entry(device, 3);
+    same(rt, &device.load(704), &0);
+    same(rt, &device.event_count(), &6);
 }

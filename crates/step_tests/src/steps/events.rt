@@ -1,4 +1,5 @@
 // Events as rows of tests have them.
+use crate::values::same;
 use pmem_lines::{Event, Pmem, SimPmem};
 use std::alloc::{AllocError, Global};
 use std::process::Abort;
@@ -29,7 +30,7 @@ pub(crate) fn events_of(alloc: Global, parts: &[Fenced]) -> Result<Vec<Event>, A
 
 /// A device has exactly these events.
 pub(crate) fn has_exactly<R: Abort>(rt: &R, device: &SimPmem, events: &[Event]) {
-    assert_eq!(rt; device.event_count() as usize, events.len());
+    same(rt, &(device.event_count() as usize), &events.len());
     for i in 0..device.event_count() {
         assert_eq!(rt;
             events.get(i as usize).copied(),

@@ -1,7 +1,7 @@
 use Rattle.std.proofs.Common.{◌≡◌, ◌*◌, ◌<◌}
 use Rattle.dict_index.specs.declared.key_map.Keyed.{Keyed}
 use Rattle.dict_index.specs.KeyRoots.{IsKeyed}
-use Rattle.layer_tests.proofs.keys.map_of_most.Given as goal
+use Rattle.layer_tests.proofs.keys.push_the_most.Given as goal
 
 abbrev pub invariant-loop-root : goal.invariant-loop-root
 invariant-loop-root l = record {

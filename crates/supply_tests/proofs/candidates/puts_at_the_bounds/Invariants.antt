@@ -1,5 +1,5 @@
 use Rattle.std.proofs.Common.{◌≡◌, length}
-use Rattle.supply_tests.proofs.candidates.fit_at_the_bounds.Given as goal
+use Rattle.supply_tests.proofs.candidates.puts_at_the_bounds.Given as goal
 
 abbrev pub invariant-loop-start : goal.invariant-loop-start
 invariant-loop-start g l = length l.candidates ≡ 4096

@@ -1,4 +1,4 @@
-use Rattle.layer_tests.proofs.numbers.extents.best_fit_in_words.Given as goal
+use Rattle.layer_tests.proofs.numbers.extents.fit_in_words.Given as goal
 
 abbrev pub ghosts-counted : goal.ghosts-counted
 ghosts-counted g a = record { name = a.blank.name; parts = a.blank.parts }
