@@ -20,7 +20,7 @@ done_is (Err refusal) is = absurd (cc is)
 -- roots and sizes
 
 pub stage_rooted : (words : List ℕ) → stage < (bounds_of words).roots
-stage_rooted words = (layout_rules (version_in words)).some_root
+stage_rooted words = omega (arith, (layout_rules (version_in words)).least_roots)
 
 pub value_fits : (words : List ℕ) (count : ℕ) → IsExactImage words → count ≤ most_values → bytes_for count ≤ ((bounds_of words).granules - (bounds_of words).first) * 16384
 value_fits words count image few =

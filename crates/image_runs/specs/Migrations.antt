@@ -1,5 +1,5 @@
 -- What `migrate` makes of the image of a pool of version 1: one of version 2, arena by arena.
-use Rattle.std.specs.Prelude.{◌≡◌, ℕ, List, ◌++◌, length, flat_map}
+use Rattle.std.specs.Prelude.{◌≡◌, ◌≤◌, ℕ, List, ◌++◌, length, flat_map}
 use Rattle.pool_layout.specs.declared.header.PoolHeader.{PoolHeader}
 use Rattle.pool_layout.specs.Bytes.{bytes_of_words}
 use Rattle.pool_layout.specs.Image.{part_of}
@@ -25,10 +25,10 @@ pub record IsPoolMigrated (words : List ℕ) (header : PoolHeader) (bytes : List
   pub version : header.version ≡ 1
   pub arenas : HasMigrations words header.granules header.arenas bytes
 
--- Why a pool is not migrated: it is of version 2; else the lowest arena that is not sound, by its first defect.
+-- Why a pool is not migrated: it is of a later version; else the lowest arena that is not sound, by its first defect.
 abbrev pub IsWhyNot : List ℕ → PoolHeader → PoolMigrateFault → Type 0
 IsWhyNot words header (faults.Memory error) = Unit {0}
-IsWhyNot words header (faults.Newer version) = (version ≡ 2) × (header.version ≡ 2)
+IsWhyNot words header (faults.Newer version) = (2 ≤ version) × (header.version ≡ version)
 IsWhyNot words header (faults.Defect arena defect) = (header.version ≡ 1) × HasUnsoundFrom words header 0 arena defect
 
 -- the fault of an arena's migration, as one of its pool
@@ -40,7 +40,7 @@ pool_fault arena (arenas.Defect defect) = faults.Defect arena defect
 -- why an arena of these words is not migrated, of the pool in which it has this number
 abbrev pub IsOwnWhyNot : List ℕ → ℕ → PoolMigrateFault → Type 0
 IsOwnWhyNot words arena (faults.Memory error) = Unit {0}
-IsOwnWhyNot words arena (faults.Newer version) = (version ≡ 2) × HasVersion words version
+IsOwnWhyNot words arena (faults.Newer version) = (2 ≤ version) × HasVersion words version
 IsOwnWhyNot words arena (faults.Defect found defect) = IsOwnDefect words arena found defect
 
 -- the bytes of an arena's migration are added behind others

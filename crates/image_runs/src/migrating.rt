@@ -31,7 +31,7 @@ impl From<OutOfMemory> for PoolMigrateFault {
 }
 
 /// The bytes of a pool of version 2 that has what the pool of these words has, which is of version 1: those of one migration
-/// of each arena, in order. `Newer` comes exactly where the pool is of version 2, before any memory is asked; `Defect`
+/// of each arena, in order. `Newer` comes exactly where the pool is of a later version, before any memory is asked; `Defect`
 /// exactly where it is of version 1 and an arena is not sound, and it yields to want of memory. Beside words and bytes it
 /// takes what the migration of one arena does, for one at a time.
 pub fn migrate_pool(
@@ -41,11 +41,13 @@ pub fn migrate_pool(
 ) -> Result<Vec<u8>, PoolMigrateFault>
     requires { IsPoolImage words.now header.now }
     ensures migrated { IfOk result (λ bytes. IsPoolMigrated words.now header.now bytes.items) }
-    ensures newer { header.now.version ≡ 2 → result ≡ Err (faults.Newer 2) }
+    ensures newer { 2 ≤ header.now.version → result ≡ Err (faults.Newer header.now.version) }
     ensures refused { IfErr result (IsWhyNot words.now header.now) }
 {
-    if header.version == 2 {
-        return Err(PoolMigrateFault::Newer { version: 2 });
+    if header.version != 1 {
+        return Err(PoolMigrateFault::Newer {
+            version: header.version,
+        });
     }
     let mut bytes = room_for(alloc, header)?;
     let mut piece = new_piece(alloc)?;

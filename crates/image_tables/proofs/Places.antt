@@ -43,7 +43,7 @@ entry_slot-low version chunk entry = omega arith
 pub log_start-low : (version : ℕ) → 2048 < log_start version
 log_start-low version =
     let rules = layout_rules version in
-    omega (arith, rules.roots, rules.some_root)
+    omega (arith, rules.roots, rules.least_roots)
 
 -- an entry lies before the heap
 pub entry_slot-high : (version chunk entry : ℕ) → chunk < 16 → entry < (layout_of version).chunk_entries → entry_slot version chunk entry < heap_word version

@@ -64,9 +64,9 @@ pub migrate_not_refused : (input : List ℕ) (why : Cause) → HasSoundFirst inp
 migrate_not_refused input (Text refusal) has refused = refused
 migrate_not_refused input (Image arena defect) has (inl is) = law_of_no_defect input has.arenas.words arena defect has.arenas.image is
 migrate_not_refused input (Image arena defect) has (inr un) = sound_not_unsound input un.words un.image arena defect has.arenas un.unsound
-migrate_not_refused input (Version version) has second =
-    let same = one_header input has.arenas.words second.words has.arenas.image second.image in
-    omega (arith, ap (λ (h : PoolHeader). h.version) same, second.is, second.second, has.first)
+migrate_not_refused input (Version version) has later =
+    let same = one_header input has.arenas.words later.words has.arenas.image later.image in
+    omega (arith, ap (λ (h : PoolHeader). h.version) same, later.is, later.later, has.first)
 
 -- traces
 

@@ -1,5 +1,5 @@
 -- What `migrate` means.
-use Rattle.std.specs.Prelude.{◌≡◌, ◌⊎◌, ℕ, List, true}
+use Rattle.std.specs.Prelude.{◌≡◌, ◌≤◌, ◌⊎◌, ℕ, List, true}
 use Rattle.pool_layout.specs.declared.defect.Defect.{Defect}
 use Rattle.pool_layout.specs.Image.{IsImageOf, IsImageDefect}
 use Rattle.image_runs.specs.Checks.{HasUnsoundFrom}
@@ -18,12 +18,12 @@ pub record AnswersMigrate (input output : List ℕ) (old new : Places) : Type 0 
   pub migrated : IsPoolMigrated words image.header output
   pub stays : new ≡ old
 
--- the bytes are the image of a pool of this version, which is the second
-pub record HasSecondVersion (input : List ℕ) (version : ℕ) : Type 0 where
+-- the bytes are the image of a pool of this version, which is later than the first
+pub record HasLaterVersion (input : List ℕ) (version : ℕ) : Type 0 where
   pub words : List ℕ
   pub image : IsImageOf input words
   pub is : version ≡ image.header.version
-  pub second : version ≡ 2
+  pub later : 2 ≤ version
 
 -- the bytes are the image of a pool of version 1 of which some arena is not sound
 pub record HasUnsoundFirst (input : List ℕ) (arena : ℕ) (defect : Defect) : Type 0 where
@@ -36,7 +36,7 @@ pub record HasUnsoundFirst (input : List ℕ) (arena : ℕ) (defect : Defect) : 
 -- the first defect of the lowest arena that is not sound
 abbrev pub RefusesMigrate : List ℕ → Cause → Type 0
 RefusesMigrate input (Image arena defect) = IsImageDefect input arena defect ⊎ HasUnsoundFirst input arena defect
-RefusesMigrate input (Version version) = HasSecondVersion input version
+RefusesMigrate input (Version version) = HasLaterVersion input version
 RefusesMigrate input cause = ⊥
 
 -- the bytes are the image of a pool of version 1 of which every arena is sound

@@ -52,13 +52,15 @@ abbrev pub pool_granules : ℕ
 pool_granules = 16528
 
 -- What every row keeps. Of places: the roots lie before the log, a chunk is a line and the lines of its entries, the heap
--- begins where the sixteen chunks end, and an arena has a heap. Numbers of roots and of entries have 16 bits.
+-- begins where the sixteen chunks end, and an arena has a heap. There are 4096 roots at least, and numbers of roots and of
+-- entries have 16 bits.
 --
 -- Of events: as many extents as live at most go into five chunks, and these five are stored and flushed, named in the
--- directory, and an entry is added to the last; the header of a slab has 75 events besides; recovery adds two entries, the second of which rolls at most, and
--- has 85 events besides; and all of a call fits into the room, 11 events of a block with a slab that is opened for it.
+-- directory, and an entry is added to the last; the header of a slab has 75 events besides; recovery adds two entries, the
+-- second of which rolls at most, and has 85 events besides; and all of a call fits into the room, 11 events of a block with
+-- a slab that is opened for it. The room is from 2048 to 4096 events.
 pub record IsLayout (layout : Layout) : Type 0 where
-  pub some_root : 0 < layout.roots
+  pub least_roots : 4096 ≤ layout.roots
   pub few_roots : layout.roots < 2 ^ 16
   pub roots : 16384 + 8 * layout.roots ≤ layout.log_at
   pub log : layout.log_at % 64 ≡ 0
@@ -81,3 +83,4 @@ pub record IsLayout (layout : Layout) : Type 0 where
   pub call : layout.slab_events + 11 ≤ layout.room
   pub recovered : layout.recovery_events ≤ layout.room
   pub room : 2048 ≤ layout.room
+  pub most_room : layout.room ≤ 4096

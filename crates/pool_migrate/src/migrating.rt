@@ -1,5 +1,5 @@
 // An arena of version 1 becomes one of version 2.
-ghost use Rattle.std.specs.Prelude.{◌≡◌, IfOk, IfErr, OnOk, Err};
+ghost use Rattle.std.specs.Prelude.{◌≡◌, ◌≤◌, ℕ, IfOk, IfErr, OnOk, Err};
 ghost use Rattle.pmem_lines.specs.Pmem.{words_of};
 ghost use Rattle.pool_layout.specs.Header.{version_in, granules_in, IsHeader};
 ghost use Rattle.heap_check.specs.Image.{IsSoundImage};
@@ -19,21 +19,23 @@ use std::alloc::Global;
 
 /// Migrates the words of an arena of version 1: the new words are an exact image of version 2, with nine granules more, and
 /// have the heap of the old ones nine granules higher, 147456 bytes, with the words of its blocks. `Newer` comes exactly where
-/// the header line is good and its version is 2, before any memory is asked; `Defect` exactly where it does not and the words
+/// the header line is good and of a later version, before any memory is asked; `Defect` exactly where it does not and the words
 /// are not a sound image, and it yields to want of memory. Beside the words and the new ones it takes a device of the words
 /// and what recovery reads of them.
 pub fn migrate_arena(alloc: Global, words: &[u64]) -> Result<Vec<u64>, MigrateFault>
     ensures sound { OnOk result (IsSoundImage words.now) }
     ensures migrated { IfOk result (λ new. IsMigrated words.now new.items) }
-    ensures newer { HasVersion words.now 2 → result ≡ Err (faults.Newer 2) }
+    ensures newer { (version : ℕ) → 2 ≤ version → HasVersion words.now version → result ≡ Err (faults.Newer version) }
     ensures refused { IfErr result (IsCause words.now) }
 {
     let header = match header_of(words) {
         Ok(header) => header,
         Err(defect) => return Err(MigrateFault::Defect(defect)),
     };
-    if header.version == 2 {
-        return Err(MigrateFault::Newer { version: 2 });
+    if header.version != 1 {
+        return Err(MigrateFault::Newer {
+            version: header.version,
+        });
     }
     migrate_first(alloc, words, &header)
 }

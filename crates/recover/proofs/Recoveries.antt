@@ -1,10 +1,11 @@
 -- A device that recovery made exact, from what its steps say.
-use Rattle.std.proofs.Common.{◌≡◌, ◌≤◌, ◌-◌, Bool, true, false, cond, eqb, List, ℕ, length, sym, ap, subst, ◌∙◌, arith}
+use Rattle.std.proofs.Common.{◌≡◌, ◌≤◌, ◌-◌, List, ℕ, length, sym, ap, subst, ◌∙◌, arith}
 use Rattle.pmem_lines.specs.declared.event.Event.{Event}
 use Rattle.pmem_lines.specs.Pmem.{PmemState, words_of, began, appended, fresh}
 use Rattle.pmem_lines.specs.Events.{CrashOnly}
-use Rattle.pool_layout.specs.Layout.{first_layout, second_layout, layout_of}
+use Rattle.pool_layout.specs.Layout.{layout_of}
 use Rattle.pool_layout.specs.Header.{version_in}
+use Rattle.pool_layout.proofs.Layouts.{layout_rules}
 use Rattle.heap_check.specs.Image.{IsExactImage, IsSteadyImage}
 use Rattle.settle_steps.specs.Settled.{KeepsHeap}
 use Rattle.transition_steps.specs.Transitions.{LeavesHeap}
@@ -41,12 +42,6 @@ recovered_device words room device is = record {
   image = is.image;
 }
 
--- the room of every row of the table
-room_of_row : (second : Bool) → (cond second second_layout first_layout).room ≤ 4096
-room_of_row true = omega arith
-room_of_row false = omega arith
-
--- a device that has it
+-- a device that has the room of every row of the table
 pub room_of_any : (device : PmemState) → 4096 ≤ device.room → HasVersionRoom device
-unfolding layout_of
-room_of_any device few header here = omega (arith, few, room_of_row (eqb header.version 2))
+room_of_any device few header here = omega (arith, few, (layout_rules header.version).most_room)

@@ -29,7 +29,7 @@ module _ {old new : ArenaState} where
   pub untaken : {reply : Reply} → ((at size : ℕ) → reply ≢ replies.Placed at size) → IsAnswered 0 old new (calls.Malloc stage 64) reply → HasNone (words_of old.device) stage → IsUntaken old new
   untaken {reply} refused e none =
       let words = words_of old.device in
-      let low = stage_rooted words e.did.was_exact in
+      let low = stage_rooted words in
       let fits = record_fits words e.did.was_exact in
       let some : 64 ≢ 0 = λ is. omega (arith, is) in
       let is : reply ≡ replies.NoSpace = no_space words (words_of new.device) 0 _ _ stage 64 reply e.step low none some fits refused in
@@ -56,12 +56,12 @@ module _ {old new : ArenaState} where
 
   module _ {root : ℕ} {reply : Reply} (low : root < stage) (block : HasRecordBlock (words_of old.device) stage) (none : HasNone (words_of old.device) root) (e : IsMoveAnswered old new stage root reply) where
     pub moved : reply ≡ replies.Moved block.range.at block.range.size
-    moved = (passed (words_of old.device) (words_of new.device) stage root block.range reply e.step e.did.was_exact block.named (omega (arith, low, stage_rooted (words_of old.device) e.did.was_exact)) none).is
+    moved = (passed (words_of old.device) (words_of new.device) stage root block.range reply e.step e.did.was_exact block.named (omega (arith, low, stage_rooted (words_of old.device))) none).is
 
     pub shown : IsShown old new root
     shown =
         let words = words_of old.device in
-        let p = passed words (words_of new.device) stage root block.range reply e.step e.did.was_exact block.named (omega (arith, low, stage_rooted words e.did.was_exact)) none in
+        let p = passed words (words_of new.device) stage root block.range reply e.step e.did.was_exact block.named (omega (arith, low, stage_rooted words)) none in
         let wide : block.range ≡ record { at = block.range.at; size = 64 } = λ i. record { at = block.range.at; size = block.size i } in
         let is : reply ≡ replies.Moved block.range.at 64 = p.is ∙ ap (λ (s : ℕ). replies.Moved block.range.at s) block.size in
         record {

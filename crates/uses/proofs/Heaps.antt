@@ -1,28 +1,19 @@
--- The stage of a stack is a root of an arena of either version, and a record has a class of 64 bytes.
-use Rattle.std.proofs.Common.{◌≡◌, ℕ, ◌-◌, ◌*◌, ◌<◌, ◌≤◌, List, ap, arith, ⊎_elim}
+-- The stage of a stack is a root of an arena of any version, and a record has a class of 64 bytes.
+use Rattle.std.proofs.Common.{◌≡◌, ℕ, ◌-◌, ◌*◌, ◌<◌, ◌≤◌, List, ap, arith}
 use Rattle.size_classes.specs.Classes.{sizes, class_size, IsClassOf}
 use Rattle.size_classes.proofs.Least.{low_class}
-use Rattle.pool_layout.specs.declared.layout.Layout.{Layout}
-use Rattle.pool_layout.specs.Layout.{layout_of, IsLayout, IsVersion}
+use Rattle.pool_layout.specs.Layout.{layout_of, IsLayout}
 use Rattle.pool_layout.specs.Header.{version_in}
-use Rattle.pool_layout.proofs.Layouts.{layout_rules, first_row, second_row, version_cases}
+use Rattle.pool_layout.proofs.Layouts.{layout_rules}
 use Rattle.heap_model.proofs.Sites.{class_once}
 use Rattle.heap_check.specs.Image.{bounds_of, IsExactImage}
 use Rattle.uses.specs.Stack.{stage}
 
--- the stage is a root in either version
-stage_low : (version : ℕ) → IsVersion version → stage < (layout_of version).roots
-stage_low version is =
-    let first : (layout_of 1).roots ≡ 4096 = ap (λ (r : Layout). r.roots) first_row in
-    let second : (layout_of 2).roots ≡ 16384 = ap (λ (r : Layout). r.roots) second_row in
-    ⊎_elim
-    (λ (one : version ≡ 1). omega (arith, first, ap (λ (v : ℕ). (layout_of v).roots) one))
-    (λ (two : version ≡ 2). omega (arith, first, second, ap (λ (v : ℕ). (layout_of v).roots) two))
-    (version_cases version is)
+-- the stage is a root of every version
+pub stage_rooted : (words : List ℕ) → stage < (bounds_of words).roots
+stage_rooted words = omega (arith, (layout_rules (version_in words)).least_roots)
 
--- so it is one of an exact image, and the heap of that has 64 bytes
-pub stage_rooted : (words : List ℕ) → IsExactImage words → stage < (bounds_of words).roots
-stage_rooted words image = stage_low (version_in words) image.formed.header.valid.version
+-- the heap of an exact image has 64 bytes
 
 pub record_fits : (words : List ℕ) → IsExactImage words → 64 ≤ ((bounds_of words).granules - (bounds_of words).first) * 16384
 record_fits words image =

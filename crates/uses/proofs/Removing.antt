@@ -125,7 +125,7 @@ module _ (old : ArenaState) (depth : ℕ) (some : depth ≢ 0) (kept : IsKept (s
 
   -- and it is lent
   pub lent : (refusal : BlockRefusal) → ¬ (IsViewOf (words_of old.device) (depth - 1) (Err refusal))
-  lent NoRoot past = omega (arith, past, top_below, stage_rooted (words_of old.device) kept.exact)
+  lent NoRoot past = omega (arith, past, top_below, stage_rooted (words_of old.device))
   lent Empty none = let named = top_record.named in let gone = none.1 in cc (named, gone)
   lent OutOfRange never = never
 

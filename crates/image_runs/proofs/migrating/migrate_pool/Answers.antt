@@ -1,8 +1,7 @@
 use Rattle.std.proofs.Common.{◌≡◌, ◌∙◌, ◌++◌, ⊎_elim, List, ℕ, length, drop, ap, arith, subst, sym, length-append}
 use Rattle.std.proofs.lemmas.List.{length-take-le}
 use Rattle.pool_layout.specs.declared.header.PoolHeader.{PoolHeader}
-use Rattle.pool_layout.specs.Image.{IsPoolImage}
-use Rattle.pool_layout.proofs.Layouts.{layout_rules, version_cases}
+use Rattle.pool_layout.proofs.Layouts.{layout_rules}
 use Rattle.image_runs.specs.Migrations.{IsOwnWhyNot, AddsMigration}
 use Rattle.image_runs.proofs.Migrations.{migrations_more, sound_before, pool_why}
 use Rattle.image_runs.proofs.migrating.migrate_pool.Goals as goal
@@ -10,16 +9,12 @@ use Rattle.image_runs.proofs.migrating.migrate_pool.Goals as goal
 pub room_for-requires-clause-granules : goal.room_for-requires-clause-granules
 room_for-requires-clause-granules c = omega (arith, c.requires.first.valid.greatest, (layout_rules c.args.header.now.version).most)
 
--- a pool that is not of version 2 is of version 1
-first_version : (words : List ℕ) (header : PoolHeader) → IsPoolImage words header → (header.version ≡ 2 → ⊥) → header.version ≡ 1
-first_version words header pool other = ⊎_elim (λ one. one) (λ (two : header.version ≡ 2). absurd (other two)) (version_cases header.version pool.first.valid.version)
-
 pub returns-in-Err-clause-refused : goal.returns-in-Err-clause-refused
 returns-in-Err-clause-refused c =
     let words = c.args.words.now in
     let header = c.args.header.now in
     let arena = c.loop-arena.arena in
-    pool_why words header arena c.in-Err.fault c.requires (first_version words header c.requires (λ two. omega (arith, two, c.if-header-eq2.false))) c.loop-arena-test.true (sound_before words header.granules c.loop-arena.invariant.done)
+    pool_why words header arena c.in-Err.fault c.requires (omega (arith, c.if-header-ne1.false)) c.loop-arena-test.true (sound_before words header.granules c.loop-arena.invariant.done)
     (subst (λ (ws : List ℕ). IsOwnWhyNot ws arena c.in-Err.fault) c.parts-own.ensures c.in-Err.ensures.refused)
 
 pub loop-arena-preserved : goal.loop-arena-preserved

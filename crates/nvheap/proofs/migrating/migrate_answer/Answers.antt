@@ -24,8 +24,8 @@ returns-in-Err-Newer c =
     (λ image are. record {
       words = c.args.words.now;
       image = image_of image c.args.words.now c.args.bytes c.in-Ok.header are c.in-Ok.ensures.whole c.in-Ok.ensures.pool;
-      is = why.0 ∙ sym why.1;
-      second = why.0;
+      is = why.1;
+      later = why.0;
     })
     c.fault_line-in-Err-Newer.ensures
 
