@@ -1,11 +1,11 @@
 // Many senders at one arena, whose queue has room for few requests. Some send more than others, and end later.
 ghost use Rattle.std.specs.Prelude.{◌≤◌};
 
-use crate::one_arena::empty_arena;
 use crate::values::same;
 use heap_model::{Call, Entry};
 use serve_runs::make_calls;
 use shared_pool::OpenGate;
+use single_server::empty_arena;
 use std::alloc::{AllocError, Global};
 use std::process::Abort;
 use std::sync::Wait;

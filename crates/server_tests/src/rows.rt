@@ -3,12 +3,11 @@ ghost use Rattle.std.specs.Prelude.{◌≡◌, ◌<◌, false, length};
 ghost use Rattle.shared_pool.specs.Passes.{part_at};
 ghost use Rattle.arena_server.specs.Servers.{IsSenderOf, IsOwnerOf};
 
-use crate::one_arena::{Single, close_one, empty_arena, open_one};
-use crate::serving::serve;
 use crate::values::same;
 use arena_server::{Owner, Request, Sender, Served, Server};
 use heap_model::{Call, Reply};
 use pmem_lines::{OutOfMemory, SimPmem};
+use single_server::{Single, close_one, empty_arena, open_one, serve};
 use std::alloc::Global;
 use std::sync::Wait;
 

@@ -1,7 +1,7 @@
 use Rattle.std.proofs.Common.{rules, arith, ◌≡◌, ◌∙◌, ap, sym, length}
 use Rattle.std.proofs.lemmas.List.{length-map}
-use Rattle.server_tests.proofs.OneArena.{one_owner, only_item, first_owner, first_sender}
-use Rattle.server_tests.proofs.one_arena.open_one.Goals as goal
+use Rattle.single_server.proofs.OneArena.{one_owner, only_item, first_owner, first_sender}
+use Rattle.single_server.proofs.one_arena.open_one.Goals as goal
 
 pub remove-owner-requires : goal.remove-owner-requires
 remove-owner-requires g c =

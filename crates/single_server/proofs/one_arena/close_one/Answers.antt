@@ -4,8 +4,8 @@ use Rattle.shared_pool.specs.Rows.{each_of}
 use Rattle.arena_server.specs.Senders.{SenderState}
 use Rattle.arena_server.specs.Owners.{OwnerState}
 use Rattle.arena_server.specs.Closed.{Desk, IsDesk, AllDesks}
-use Rattle.server_tests.proofs.OneArena.{only_item, one_desk}
-use Rattle.server_tests.proofs.one_arena.close_one.Goals as goal
+use Rattle.single_server.proofs.OneArena.{only_item, one_desk}
+use Rattle.single_server.proofs.one_arena.close_one.Goals as goal
 
 pub returns-in-Ok : goal.returns-in-Ok
 returns-in-Ok g c =

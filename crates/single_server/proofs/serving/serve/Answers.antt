@@ -4,8 +4,8 @@ use Rattle.std.proofs.alloc.Global.TheSendSync as heap
 use Rattle.heap_model.proofs.call.Call.TheSendSync as call
 use Rattle.arena_server.proofs.sender.Sender.TheSendSync as sender
 use Rattle.arena_server.proofs.Crossing.{server_sync}
-use Rattle.server_tests.proofs.OneArena.{at_end}
-use Rattle.server_tests.proofs.serving.serve.Goals as goal
+use Rattle.single_server.proofs.OneArena.{at_end}
+use Rattle.single_server.proofs.serving.serve.Goals as goal
 
 pub join-sender-requires-send-F : goal.join-sender-requires-send-F
 join-sender-requires-send-F g c κs within = search (sendable, server_sync, sender.the_send, call.the_sync, heap.the_sync, heap.the_send) depth 20
