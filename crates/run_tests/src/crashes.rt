@@ -23,22 +23,47 @@ pub(crate) fn crash_leaves<R: Abort + Threads + Wait + Sync>(
 ) -> Result<(), Fail> {
     for (first, last, one, other) in events {
         for event in *first..=*last {
-            let (mut is_one, mut is_other) = (false, false);
-            for seed in 0..seeds {
-                let line = format!(in alloc; "{words} {event} {seed}")?;
-                let (code, text) = tells(rt, alloc, &line, input.as_bytes())?;
-                assert_eq!(rt; code, 0, "{line}");
-                assert!(rt;
-                    text.as_str() == *one || text.as_str() == *other,
-                    "{line}: {text}"
-                );
-                is_one = is_one || text.as_str() == *one;
-                is_other = is_other || text.as_str() == *other;
-            }
-            assert!(rt; is_one && is_other, "one text alone after {event} events");
+            let line = format!(in alloc; "{words} {event}")?;
+            leaves_both(rt, alloc, &line, input, seeds, (*one, *other))?;
         }
     }
     Ok(())
+}
+
+// With each seed below a number one of both texts is written, and each of them with some seed.
+fn leaves_both<R: Abort + Threads + Wait + Sync>(
+    rt: &R,
+    alloc: Global,
+    words: &str,
+    input: &str,
+    seeds: u32,
+    texts: (&str, &str),
+) -> Result<(), Fail> {
+    let (mut is_one, mut is_other) = (false, false);
+    for seed in 0..seeds {
+        let (one, other) = leaves_one(rt, alloc, words, input, seed, texts)?;
+        is_one = is_one || one;
+        is_other = is_other || other;
+    }
+    assert!(rt; is_one && is_other, "{words}: one text alone");
+    Ok(())
+}
+
+// Which of both texts is written with a seed.
+fn leaves_one<R: Abort + Threads + Wait + Sync>(
+    rt: &R,
+    alloc: Global,
+    words: &str,
+    input: &str,
+    seed: u32,
+    (one, other): (&str, &str),
+) -> Result<(bool, bool), Fail> {
+    let line = format!(in alloc; "{words} {seed}")?;
+    let (code, text) = tells(rt, alloc, &line, input.as_bytes())?;
+    let (is_one, is_other) = (text.as_str() == one, text.as_str() == other);
+    assert_eq!(rt; code, 0, "{line}");
+    assert!(rt; is_one || is_other, "{line}: {text}");
+    Ok((is_one, is_other))
 }
 
 /// Over each input of a table runs with these words write what stands below it. A line has the first and the last of some numbers
@@ -52,18 +77,33 @@ pub(crate) fn all_leave<R: Abort + Threads + Wait + Sync>(
     table: &str,
     seeds: u32,
 ) -> Result<(), Fail> {
-    for case in expanded(alloc, table)?.split("----\n") {
+    let table = expanded(alloc, table)?;
+    for case in table.split("----\n") {
         let (input, lines) = halves(case, '$');
         for line in lines.split("\n$") {
-            let (numbers, told) = halves(line.trim_end(), ' ');
-            let (first, last) = numbers.split_once("..").unwrap_or((numbers, numbers));
-            let (one, other) = told.split_once(" | ").unwrap_or((told, told));
-            let (one, other) = (text_of(alloc, name, one)?, text_of(alloc, name, other)?);
-            let events = [(first.parse()?, last.parse()?, one.as_str(), other.as_str())];
-            crash_leaves(rt, alloc, words, input, seeds, &events)?;
+            leave(rt, alloc, words, name, input, line.trim_end(), seeds)?;
         }
     }
     Ok(())
+}
+
+// The same for one line.
+fn leave<R: Abort + Threads + Wait + Sync>(
+    rt: &R,
+    alloc: Global,
+    words: &str,
+    name: &str,
+    input: &str,
+    line: &str,
+    seeds: u32,
+) -> Result<(), Fail> {
+    let (numbers, told) = halves(line, ' ');
+    let (first, last) = numbers.split_once("..").unwrap_or((numbers, numbers));
+    let (one, other) = told.split_once(" | ").unwrap_or((told, told));
+    let one = text_of(alloc, name, one)?;
+    let other = text_of(alloc, name, other)?;
+    let events = [(first.parse()?, last.parse()?, one.as_str(), other.as_str())];
+    crash_leaves(rt, alloc, words, input, seeds, &events)
 }
 
 // What is written of a call and of these parts: `call 1 after, 5 67584 112`.

@@ -113,17 +113,36 @@ pub(crate) fn all_tell_of<R: Abort + Threads + Wait + Sync>(
         let (runs, told) = changed.split_once(" | ").ok_or("no line")?;
         let mut bytes = image_of(alloc, size, base)?;
         put_all(alloc, &mut bytes, runs)?;
-        let (line, code, recovered) = match told.split_once(" | ") {
-            Some((counts, blocks)) => {
-                let heap = heap_of(alloc, blocks)?;
-                (counts, 0, format!(in alloc; "arena 0 {heap}")?)
-            }
-            None => (told, 2, format!(in alloc; "{told}\n")?),
-        };
-        let checked = format!(in alloc; "{line}\n")?;
-        both_tell(rt, alloc, name, &bytes, code, &checked, &recovered)?;
+        tell_of(rt, alloc, name, &bytes, told)?;
     }
     Ok(())
+}
+
+// Both commands end over these bytes as the last part of a line says.
+fn tell_of<R: Abort + Threads + Wait + Sync>(
+    rt: &R,
+    alloc: Global,
+    name: &str,
+    bytes: &[u8],
+    told: &str,
+) -> Result<(), Fail> {
+    match told.split_once(" | ") {
+        Some((counts, blocks)) => {
+            let checked = format!(in alloc; "{counts}\n")?;
+            let recovered = heap_of_arena_0(alloc, blocks)?;
+            both_tell(rt, alloc, name, bytes, 0, &checked, &recovered)
+        }
+        None => {
+            let line = format!(in alloc; "{told}\n")?;
+            both_tell(rt, alloc, name, bytes, 2, &line, &line)
+        }
+    }
+}
+
+// The heap that has these blocks, as `recover` writes it of the first arena.
+fn heap_of_arena_0(alloc: Global, blocks: &str) -> Result<String, AllocError> {
+    let heap = heap_of(alloc, blocks)?;
+    format!(in alloc; "arena 0 {heap}")
 }
 
 // Puts runs into an image, of which each is said by the number of its first byte and its bytes: `512: 1 0 5, 65600: 0`.

@@ -97,40 +97,66 @@ pub(crate) fn all_end_and_write<R: Abort + Threads + Wait + Sync>(
     alloc: Global,
     table: &str,
 ) -> Result<(), Fail> {
-    for case in expanded(alloc, table)?.split("----\n") {
+    let table = expanded(alloc, table)?;
+    for case in table.split("----\n") {
         let (trace, runs) = halves(case, '$');
         for asked in runs.split('$') {
             let (line, told) = halves(asked, '\n');
-            let (code, lines) = halves(line, ' ');
-            match code {
-                "may" => {}
-                "events" => {
-                    let (arena, count) = halves(lines, ' ');
-                    has_events(rt, alloc, trace, arena, count.parse()?)?;
-                }
-                "idle" => {
-                    let words = format!(in alloc; "crash {lines} 0 0")?;
-                    all_tell(
-                        rt,
-                        alloc,
-                        trace.as_bytes(),
-                        &[(&words, 0, "call 0 same\nheap 0\n")],
-                    )?;
-                    has_events(rt, alloc, trace, lines, 0)?;
-                }
-                _ => {
-                    for words in lines.split(", ") {
-                        all_tell(rt, alloc, trace.as_bytes(), &[(words, code.parse()?, told)])?;
-                    }
-                }
-            }
+            end_as(rt, alloc, trace, line, told)?;
         }
     }
     Ok(())
 }
 
-// The calls of an arena of a trace have so many events: there is none behind them.
-fn has_events<R: Abort + Threads + Wait + Sync>(
+// Runs over a trace end and write as a line of a table says, and what stands below it.
+fn end_as<R: Abort + Threads + Wait + Sync>(
+    rt: &R,
+    alloc: Global,
+    trace: &str,
+    line: &str,
+    told: &str,
+) -> Result<(), Fail> {
+    match halves(line, ' ') {
+        ("may", _) => Ok(()),
+        ("events", lines) => {
+            let (arena, count) = halves(lines, ' ');
+            has_events(rt, alloc, trace, arena, count.parse()?)
+        }
+        ("idle", arena) => is_idle(rt, alloc, trace, arena),
+        (code, lines) => each_tells(rt, alloc, trace, lines, code.parse()?, told),
+    }
+}
+
+// Each of these runs over a trace ends with this code and writes this text.
+fn each_tells<R: Abort + Threads + Wait + Sync>(
+    rt: &R,
+    alloc: Global,
+    trace: &str,
+    lines: &str,
+    code: u8,
+    told: &str,
+) -> Result<(), Fail> {
+    for words in lines.split(", ") {
+        all_tell(rt, alloc, trace.as_bytes(), &[(words, code, told)])?;
+    }
+    Ok(())
+}
+
+// An arena of a trace has no events, and a crash leaves it empty, with no call under way.
+fn is_idle<R: Abort + Threads + Wait + Sync>(
+    rt: &R,
+    alloc: Global,
+    trace: &str,
+    arena: &str,
+) -> Result<(), Fail> {
+    let words = format!(in alloc; "crash {arena} 0 0")?;
+    let row = (words.as_str(), 0, "call 0 same\nheap 0\n");
+    all_tell(rt, alloc, trace.as_bytes(), &[row])?;
+    has_events(rt, alloc, trace, arena, 0)
+}
+
+/// The calls of an arena of a trace have so many events: there is none behind them.
+pub(crate) fn has_events<R: Abort + Threads + Wait + Sync>(
     rt: &R,
     alloc: Global,
     trace: &str,

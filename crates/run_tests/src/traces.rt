@@ -109,26 +109,27 @@ pub(crate) const SIXTEEN_ARENAS: &str = "pool 16 16
 pub(crate) fn writes_anew(alloc: Global, arenas: u32) -> Result<String, AllocError> {
     let mut trace = format!(in alloc; "pool {arenas} 64\n")?;
     add_calls(&mut trace, alloc, arenas, "m 0 20000")?;
-    for chunk in 0..8u32 {
-        for _ in 0..59u32 {
-            add_calls(&mut trace, alloc, arenas, "m 100 20000, f 100")?;
-        }
-        let first = 2 * chunk + 1;
-        let second = if chunk < 7 { first + 1 } else { 101 };
-        add_calls(
-            &mut trace,
-            alloc,
-            arenas,
-            &format!(in alloc; "m {first} 20000")?,
-        )?;
-        add_calls(
-            &mut trace,
-            alloc,
-            arenas,
-            &format!(in alloc; "m {second} 20000")?,
-        )?;
+    for chunk in 0..7u32 {
+        add_chunk(&mut trace, alloc, arenas, 2 * chunk + 1, 2 * chunk + 2)?;
     }
+    add_chunk(&mut trace, alloc, arenas, 15, 101)?;
     Ok(trace)
+}
+
+// Fills a chunk of the log of each arena with entries of a block that comes and goes, and of one that lives on. A second one
+// that lives on is the first of the next chunk.
+fn add_chunk(
+    trace: &mut String,
+    alloc: Global,
+    arenas: u32,
+    first: u32,
+    second: u32,
+) -> Result<(), AllocError> {
+    for _ in 0..59u32 {
+        add_calls(trace, alloc, arenas, "m 100 20000, f 100")?;
+    }
+    let calls = format!(in alloc; "m {first} 20000, m {second} 20000")?;
+    add_calls(trace, alloc, arenas, &calls)
 }
 
 // Adds these calls at each arena, by the thread of its number.

@@ -73,31 +73,37 @@ pub(crate) fn script_of<V: Variant>(
     alloc: Global,
     name: &str,
 ) -> Result<Option<Script>, OutOfMemory> {
+    match name {
+        "full-arena" => Ok(Some(drawn_calls::<V>(alloc)?)),
+        _ => Ok(fixed_script(alloc, name)?),
+    }
+}
+
+// The same of a script whose calls are the same for each variant.
+fn fixed_script(alloc: Global, name: &str) -> Result<Option<Script>, AllocError> {
     let script = match name {
-        "ordinary-use" => of_calls(16, 6, vec![in alloc; malloc(5, 100)]?, 0, 0),
-        "payload" => payload(alloc)?,
-        "slab-goes-back" => of_calls(16, 2, vec![in alloc; malloc(1, 64), free(1)]?, 1, 0),
-        "morph" => of_calls(16, 3, takes_a_class(alloc)?, 2, 0),
-        "transition-ends" => transition_ends(alloc)?,
-        "moves" => moves(alloc)?,
-        "log-roll" => log_roll(alloc, 16, 60)?,
-        "roll-in-slab" => roll_in_slab(alloc)?,
-        "log-rewrite" => of_calls(64, 102, rewrites(alloc, 59, 20_000)?, 960, 0),
-        "rewrite-in-slab" => of_calls(64, 102, rewrites(alloc, 59, 100)?, 960, 960),
-        "widest-rewrite" => widest_rewrite(alloc)?,
-        "full-arena" => of_calls(16, 30, full_arena::<V>(alloc)?, first_drawn::<V>(), 0),
-        "version-2-use" => over_version_2(use_of_version_2(alloc)?),
-        "version-2-roll" => over_version_2(log_roll(alloc, 25, 252)?),
-        "version-2-rewrite" => over_version_2(of_calls(
-            64,
-            102,
-            rewrites(alloc, 251, 100)?,
-            4032,
-            4032,
-        )),
+        "ordinary-use" => ordinary_use(alloc),
+        "payload" => payload(alloc),
+        "slab-goes-back" => slab_goes_back(alloc),
+        "morph" => morph(alloc),
+        "transition-ends" => transition_ends(alloc),
+        "moves" => moves(alloc),
+        "log-roll" => log_roll(alloc, 16, 60),
+        "roll-in-slab" => roll_in_slab(alloc),
+        "log-rewrite" => log_rewrite(alloc, 20_000, 0),
+        "rewrite-in-slab" => log_rewrite(alloc, 100, 960),
+        "widest-rewrite" => widest_rewrite(alloc),
+        "version-2-use" => use_of_version_2(alloc),
+        "version-2-roll" => roll_of_version_2(alloc),
+        "version-2-rewrite" => rewrite_of_version_2(alloc),
         _ => return Ok(None),
     };
-    Ok(Some(script))
+    Ok(Some(script?))
+}
+
+// Calls that are drawn, on an arena of a variant.
+fn drawn_calls<V: Variant>(alloc: Global) -> Result<Script, OutOfMemory> {
+    Ok(of_calls(16, 30, full_arena::<V>(alloc)?, first_drawn::<V>(), 0))
 }
 
 // From which of the drawn calls on they are stopped where the stops are brief: from the last, or all where recovery is short.
@@ -137,6 +143,16 @@ fn free(root: u32) -> (u32, Call) {
     (0, Call::Free { root })
 }
 
+// A small block comes, and its slab with it.
+fn ordinary_use(alloc: Global) -> Result<Script, AllocError> {
+    Ok(of_calls(16, 6, vec![in alloc; malloc(5, 100)]?, 0, 0))
+}
+
+// A small block goes, and its slab with it.
+fn slab_goes_back(alloc: Global) -> Result<Script, AllocError> {
+    Ok(of_calls(16, 2, vec![in alloc; malloc(1, 64), free(1)]?, 1, 0))
+}
+
 // A word of a block is written.
 fn payload(alloc: Global) -> Result<Script, AllocError> {
     let write = Call::Write {
@@ -150,6 +166,10 @@ fn payload(alloc: Global) -> Result<Script, AllocError> {
 // Eight granules are taken, a slab is opened, and it takes another class.
 fn takes_a_class(alloc: Global) -> Result<Vec<(u32, Call)>, AllocError> {
     Ok(vec![in alloc; malloc(0, 131_072), malloc(1, 64), malloc(2, 1000)]?)
+}
+
+fn morph(alloc: Global) -> Result<Script, AllocError> {
+    Ok(of_calls(16, 3, takes_a_class(alloc)?, 2, 0))
 }
 
 // Then the slab's old block goes, and with it the transition.
@@ -208,6 +228,11 @@ fn rewrites(alloc: Global, times: u32, size: u64) -> Result<Vec<(u32, Call)>, Al
     Ok(calls)
 }
 
+// The log is written anew for a block of this size. All is stopped from one call on.
+fn log_rewrite(alloc: Global, size: u64, whole_from: usize) -> Result<Script, AllocError> {
+    Ok(of_calls(64, 102, rewrites(alloc, 59, size)?, 960, whole_from))
+}
+
 // Four chunks of the log with entries of live blocks alone, and four with those of two live blocks each. It is written anew
 // into five, within a call that opens a slab. Each image has 16 MiB, so that no call is stopped where the stops are brief, and
 // else the last one.
@@ -245,5 +270,15 @@ fn use_of_version_2(alloc: Global) -> Result<Script, AllocError> {
         free(4097),
         free(5),
     ]?;
-    Ok(of_calls(25, 4101, calls, 0, 0))
+    Ok(over_version_2(of_calls(25, 4101, calls, 0, 0)))
+}
+
+// A chunk of the log has room for more entries.
+fn roll_of_version_2(alloc: Global) -> Result<Script, AllocError> {
+    Ok(over_version_2(log_roll(alloc, 25, 252)?))
+}
+
+fn rewrite_of_version_2(alloc: Global) -> Result<Script, AllocError> {
+    let calls = rewrites(alloc, 251, 100)?;
+    Ok(over_version_2(of_calls(64, 102, calls, 4032, 4032)))
 }

@@ -1,4 +1,5 @@
 // How full a slab may be that takes another class: at most 64 blocks live in it, and at most a fifth of what it holds.
+use crate::shorthand::expanded;
 use std::alloc::{AllocError, Global};
 
 /// So many blocks of a size, and the size that is given for it; the size that is asked for then, and the answer; and how many
@@ -37,23 +38,59 @@ pub const FILLINGS: [Filling; 22] = [
 
 /// The trace of a row, and the report that `replay` writes of it.
 pub fn filled(alloc: Global, row: &Filling) -> Result<(String, String), AllocError> {
+    let trace = trace_of(alloc, row)?;
+    Ok((trace, report_of(alloc, row)?))
+}
+
+fn trace_of(alloc: Global, row: &Filling) -> Result<String, AllocError> {
+    let (held, size, _, asked, _, _) = *row;
+    let text = format!(in alloc;
+        "pool 1 16\n0 0 m 0 131072\n0 0 m {{1..{held}}} {size}\n0 0 m 2000 {asked}\n"
+    )?;
+    expanded(alloc, &text)
+}
+
+fn report_of(alloc: Global, row: &Filling) -> Result<String, AllocError> {
+    let mut report = journal_of(alloc, row)?;
+    add_heap(&mut report, alloc, row)?;
+    Ok(report)
+}
+
+fn journal_of(alloc: Global, row: &Filling) -> Result<String, AllocError> {
     let (held, size, block, asked, reply, _) = *row;
-    let mut trace = String::from_str(alloc, "pool 1 16\n0 0 m 0 131072\n")?;
-    let mut calls = String::from_str(alloc, "0 m 0 131072 placed 65536 131072\n")?;
-    let mut heap = String::from_str(alloc, "0 65536 131072\n")?;
-    let mut at = 198_656u32;
-    for root in 1..=held {
-        trace.push_str(&format!(in alloc; "0 0 m {root} {size}\n")?)?;
-        calls.push_str(&format!(in alloc; "0 m {root} {size} placed {at} {block}\n")?)?;
-        heap.push_str(&format!(in alloc; "{root} {at} {block}\n")?)?;
-        at = at.saturating_add(block);
+    let made = held.saturating_add(2);
+    let text = format!(in alloc;
+        "arena 0 calls {made}\n0 m 0 131072 placed 65536 131072\n\
+         0 m {{1..{held}}} {size} placed {{198656 by {block}}} {block}\n\
+         0 m 2000 {asked} {reply}\n"
+    )?;
+    expanded(alloc, &text)
+}
+
+// The block that the last malloc is given, if it is given one, is the last of the heap.
+fn add_heap(report: &mut String, alloc: Global, row: &Filling) -> Result<(), AllocError> {
+    let (held, _, block, _, reply, _) = *row;
+    match reply.strip_prefix("placed ") {
+        Some(place) => {
+            add_blocks(report, alloc, held, block, 2)?;
+            let last = format!(in alloc; "2000 {place}\n")?;
+            report.push_str(&last)
+        }
+        None => add_blocks(report, alloc, held, block, 1),
     }
-    trace.push_str(&format!(in alloc; "0 0 m 2000 {asked}\n")?)?;
-    calls.push_str(&format!(in alloc; "0 m 2000 {asked} {reply}\n")?)?;
-    if let Some(place) = reply.strip_prefix("placed ") {
-        heap.push_str(&format!(in alloc; "2000 {place}\n")?)?;
-    }
-    let (made, left) = (calls.lines().count(), heap.lines().count());
-    let report = format!(in alloc; "arena 0 calls {made}\n{calls}heap {left}\n{heap}")?;
-    Ok((trace, report))
+}
+
+// How many blocks the heap has, with so many besides those of one class, and the blocks but the last one.
+fn add_blocks(
+    report: &mut String,
+    alloc: Global,
+    held: u32,
+    block: u32,
+    besides: u32,
+) -> Result<(), AllocError> {
+    let left = held.saturating_add(besides);
+    let text = format!(in alloc;
+        "heap {left}\n0 65536 131072\n{{1..{held}}} {{198656 by {block}}} {block}\n"
+    )?;
+    report.push_str(&expanded(alloc, &text)?)
 }

@@ -7,6 +7,7 @@ use crate::traces::{
 use crate::values::same;
 use nvheap::Status;
 use std::alloc::Global;
+use std::process::Abort;
 use std::sync::Wait;
 use std::test::Fail;
 use std::thread::Threads;
@@ -59,53 +60,73 @@ arena 14 large 0 slabs 0 blocks 0 loose 0
 arena 15 large 0 slabs 1 blocks 1 loose 0
 ";
 
-// Each trace has its image checked, and recovered to the heaps of its report. The counts are those of the trace: large
-// blocks, slabs, and all blocks; what calls leave has nothing loose.
+// Traces, in short, and the counts of each: large blocks, slabs, and all blocks. What calls leave has nothing loose.
+const COUNTED: [(&str, &str); 9] = [
+    ("pool 1 16\n", "arena 0 large 0 slabs 0 blocks 0 loose 0\n"),
+    (
+        "pool 1 1024\n0 0 m 5 16711680\n0 0 m 6 1\n",
+        "arena 0 large 1 slabs 0 blocks 1 loose 0\n",
+    ),
+    (MIXED, "arena 0 large 1 slabs 4 blocks 6 loose 0\n"),
+    (ROLLS, "arena 0 large 0 slabs 0 blocks 0 loose 0\n"),
+    (REPEATS, "arena 0 large 1 slabs 0 blocks 1 loose 0\n"),
+    (
+        TWO_ARENAS,
+        "arena 0 large 0 slabs 1 blocks 2 loose 0\narena 1 large 1 slabs 1 blocks 2 loose 0\n",
+    ),
+    (SIXTEEN_ARENAS, SIXTEEN),
+    (
+        CLASSES_TAKEN,
+        "arena 0 large 1 slabs 1 blocks 4 loose 0\narena 1 large 1 slabs 1 blocks 2 loose 0\narena 2 large 0 slabs 3 blocks 7 loose 0\n",
+    ),
+    (
+        "pool 1 16\n0 0 m 5 20000\n0 0 m 6 100\n0 0 m 7 100\n0 0 w 6 13 9\n0 0 v 6 4095\n0 0 v 5 6\n0 0 f 7\n",
+        "arena 0 large 1 slabs 1 blocks 2 loose 0\n",
+    ),
+];
+
+// The counts of one arena, and of two, whose logs are written anew.
+const ANEW_IN_ONE: &str = "arena 0 large 17 slabs 0 blocks 17 loose 0\n";
+
+const ANEW_IN_BOTH: &str =
+    "arena 0 large 17 slabs 0 blocks 17 loose 0\narena 1 large 17 slabs 0 blocks 17 loose 0\n";
+
+// Each trace has its image checked, and recovered to the heaps of its report.
 #[test]
 fn heaps_come_back(rt: HostRuntime) -> Result<(), Fail> {
-    let anew = writes_anew(rt.alloc(), 1)?;
-    let both_anew = writes_anew(rt.alloc(), 2)?;
-    let rows = [
-        ("pool 1 16\n", "arena 0 large 0 slabs 0 blocks 0 loose 0\n"),
-        (
-            "pool 1 1024\n0 0 m 5 16711680\n0 0 m 6 1\n",
-            "arena 0 large 1 slabs 0 blocks 1 loose 0\n",
-        ),
-        (MIXED, "arena 0 large 1 slabs 4 blocks 6 loose 0\n"),
-        (ROLLS, "arena 0 large 0 slabs 0 blocks 0 loose 0\n"),
-        (
-            anew.as_str(),
-            "arena 0 large 17 slabs 0 blocks 17 loose 0\n",
-        ),
-        (
-            both_anew.as_str(),
-            "arena 0 large 17 slabs 0 blocks 17 loose 0\narena 1 large 17 slabs 0 blocks 17 loose 0\n",
-        ),
-        (REPEATS, "arena 0 large 1 slabs 0 blocks 1 loose 0\n"),
-        (
-            TWO_ARENAS,
-            "arena 0 large 0 slabs 1 blocks 2 loose 0\narena 1 large 1 slabs 1 blocks 2 loose 0\n",
-        ),
-        (SIXTEEN_ARENAS, SIXTEEN),
-        (
-            CLASSES_TAKEN,
-            "arena 0 large 1 slabs 1 blocks 4 loose 0\narena 1 large 1 slabs 1 blocks 2 loose 0\narena 2 large 0 slabs 3 blocks 7 loose 0\n",
-        ),
-        (
-            "pool 1 16\n0 0 m 5 20000\n0 0 m 6 100\n0 0 m 7 100\n0 0 w 6 13 9\n0 0 v 6 4095\n0 0 v 5 6\n0 0 f 7\n",
-            "arena 0 large 1 slabs 1 blocks 2 loose 0\n",
-        ),
-    ];
-    for (text, counts) in rows {
-        let trace = expanded(rt.alloc(), text)?;
-        let (code, report) = tells(&rt, rt.alloc(), "replay", trace.as_bytes())?;
-        assert_eq!(rt; code, 0, "{text}");
-        let (ended, image) = ends_and_writes(&rt, rt.alloc(), "image", trace.as_bytes())?;
-        assert_eq!(rt; ended, Status::Done, "{text}");
-        let heaps = heaps_of(rt.alloc(), &report)?;
-        both_tell(&rt, rt.alloc(), text, &image, 0, counts, &heaps)?;
+    for (text, counts) in COUNTED {
+        comes_back(&rt, rt.alloc(), text, counts)?;
+    }
+    for (arenas, counts) in [(1, ANEW_IN_ONE), (2, ANEW_IN_BOTH)] {
+        let text = writes_anew(rt.alloc(), arenas)?;
+        comes_back(&rt, rt.alloc(), &text, counts)?;
     }
     Ok(())
+}
+
+// The image of a trace has these counts, and is recovered to the heaps of its report.
+fn comes_back<R: Abort + Threads + Wait + Sync>(
+    rt: &R,
+    alloc: Global,
+    text: &str,
+    counts: &str,
+) -> Result<(), Fail> {
+    let trace = expanded(alloc, text)?;
+    let heaps = heaps_after(rt, alloc, &trace)?;
+    let (ended, image) = ends_and_writes(rt, alloc, "image", trace.as_bytes())?;
+    assert_eq!(rt; ended, Status::Done, "{text}");
+    both_tell(rt, alloc, text, &image, 0, counts, &heaps)
+}
+
+// The heaps of the report that `replay` writes of a trace.
+fn heaps_after<R: Abort + Threads + Wait + Sync>(
+    rt: &R,
+    alloc: Global,
+    trace: &str,
+) -> Result<String, Fail> {
+    let (code, report) = tells(rt, alloc, "replay", trace.as_bytes())?;
+    assert_eq!(rt; code, 0, "{trace}");
+    heaps_of(alloc, &report)
 }
 
 // The image of a trace is this one, byte by byte.

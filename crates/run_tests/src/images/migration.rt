@@ -157,20 +157,24 @@ const TWO: [Run; 6] = [
     (409_616, &[1]),
 ];
 
+const NEWER: [(&str, u8, &str); 1] = [("migrate", 2, "version 2\n")];
+
 // Of version 2 the length and the header lines are looked at before the version is said, and the arenas are not.
 #[test]
-fn images_of_version_2(rt: HostRuntime) -> Result<(), Fail> {
+fn an_image_of_version_2(rt: HostRuntime) -> Result<(), Fail> {
     let mut image = image_of(rt.alloc(), 409_600, &LAST_ROOT)?;
-    let newer = [("migrate", 2, "version 2\n")];
-    all_tell(&rt, rt.alloc(), &image, &newer)?;
+    all_tell(&rt, rt.alloc(), &image, &NEWER)?;
     put(&mut image, 16432, &[16, 72, 3]);
-    all_tell(&rt, rt.alloc(), &image, &newer)?;
+    all_tell(&rt, rt.alloc(), &image, &NEWER)?;
     let front = image.get(..409_599).unwrap_or(&[]);
     let short = [("migrate", 2, "bad length 409599 409600\n")];
-    all_tell(&rt, rt.alloc(), front, &short)?;
+    all_tell(&rt, rt.alloc(), front, &short)
+}
 
+#[test]
+fn two_arenas_of_version_2(rt: HostRuntime) -> Result<(), Fail> {
     let mut two = image_of(rt.alloc(), 819_200, &TWO)?;
-    all_tell(&rt, rt.alloc(), &two, &newer)?;
+    all_tell(&rt, rt.alloc(), &two, &NEWER)?;
     put(&mut two, 409_610, &[0]);
     let line = "arena 1 bad header 1 563057327603714\n";
     all_tell(&rt, rt.alloc(), &two, &[("migrate", 2, line)])

@@ -1,6 +1,11 @@
 // Images of several arenas, and images of the wrong length.
 use crate::images::{ONE_BLOCK, Run, TOO_SHORT, all_tell_of, both_tell, image_of, put};
+use std::alloc::Global;
+use std::process::Abort;
+use std::sync::Wait;
 use std::test::Fail;
+use std::thread::Threads;
+use worked_runs::expanded;
 
 // Two arenas of 16 granules: the header lines, and the first word of each log's directory.
 const TWO: [Run; 6] = [
@@ -32,39 +37,62 @@ fn two_arenas(rt: HostRuntime) -> Result<(), Fail> {
     all_tell_of(&rt, rt.alloc(), 524288, &TWO, DEFECTS)
 }
 
+// What both commands write of sixteen arenas without a block, in short.
+const CHECKED: &str = "arena {0..15} large 0 slabs 0 blocks 0 loose 0\n";
+
+const RECOVERED: &str = "arena {0..15} heap 0\n";
+
 // Sixteen arenas of 16 granules, which are the most, without a block. Then the last has a bad directory.
 #[test]
 fn sixteen_arenas(rt: HostRuntime) -> Result<(), Fail> {
     let mut bytes = image_of(rt.alloc(), 4_194_304, &[])?;
-    let mut check = String::new(rt.alloc());
-    let mut recover = String::new(rt.alloc());
-    for arena in 0..16u8 {
-        let at = 262_144 * usize::from(arena);
-        put(&mut bytes, at, b"NVALLOG1");
-        put(&mut bytes, at + 8, &[1, 0, arena, 0, 16, 0, 16, 0]);
-        put(&mut bytes, at + 16, &[1]);
-        let line = format!(in rt.alloc(); "arena {arena} large 0 slabs 0 blocks 0 loose 0\n")?;
-        check.push_str(&line)?;
-        let line = format!(in rt.alloc(); "arena {arena} heap 0\n")?;
-        recover.push_str(&line)?;
-    }
+    put_sixteen(&mut bytes);
+    let check = expanded(rt.alloc(), CHECKED)?;
+    let recover = expanded(rt.alloc(), RECOVERED)?;
     both_tell(&rt, rt.alloc(), "no block", &bytes, 0, &check, &recover)?;
     put(&mut bytes, 3_932_176, &[17]);
-    let line = "arena 15 bad directory 17\n";
-    both_tell(&rt, rt.alloc(), "chunk 16", &bytes, 2, line, line)
+    refuse(&rt, rt.alloc(), &bytes, "arena 15 bad directory 17\n")
 }
 
-// The first so many bytes of an image, zeros behind it.
+// The header lines of sixteen arenas, and the first chunk of each log.
+fn put_sixteen(bytes: &mut [u8]) {
+    for arena in 0..16u8 {
+        let at = 262_144 * usize::from(arena);
+        put(bytes, at, b"NVALLOG1");
+        put(bytes, at + 8, &[1, 0, arena, 0, 16, 0, 16, 0]);
+        put(bytes, at + 16, &[1]);
+    }
+}
+
+// The first so many bytes of an image, zeros behind it: of one arena, a byte more than it has, and one of two arenas.
 #[test]
 fn lengths(rt: HostRuntime) -> Result<(), Fail> {
     for (size, line) in TOO_SHORT {
-        let bytes = image_of(rt.alloc(), size, &ONE_BLOCK)?;
-        both_tell(&rt, rt.alloc(), "one arena", &bytes, 2, line, line)?;
+        is_no_length(&rt, rt.alloc(), size, &ONE_BLOCK, line)?;
     }
-    let longer = image_of(rt.alloc(), 262145, &ONE_BLOCK)?;
     let line = "bad length 262145 262144\n";
-    both_tell(&rt, rt.alloc(), "a byte more", &longer, 2, line, line)?;
-    let half = image_of(rt.alloc(), 262144, &TWO)?;
+    is_no_length(&rt, rt.alloc(), 262145, &ONE_BLOCK, line)?;
     let line = "bad length 262144 524288\n";
-    both_tell(&rt, rt.alloc(), "one of two arenas", &half, 2, line, line)
+    is_no_length(&rt, rt.alloc(), 262144, &TWO, line)
+}
+
+fn is_no_length<R: Abort + Threads + Wait + Sync>(
+    rt: &R,
+    alloc: Global,
+    size: usize,
+    base: &[Run],
+    line: &str,
+) -> Result<(), Fail> {
+    let bytes = image_of(alloc, size, base)?;
+    refuse(rt, alloc, &bytes, line)
+}
+
+// Both commands refuse an image with this line.
+fn refuse<R: Abort + Threads + Wait + Sync>(
+    rt: &R,
+    alloc: Global,
+    bytes: &[u8],
+    line: &str,
+) -> Result<(), Fail> {
+    both_tell(rt, alloc, line, bytes, 2, line, line)
 }

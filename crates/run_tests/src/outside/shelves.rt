@@ -77,16 +77,24 @@ fn a_slab_goes_back(rt: HostRuntime) -> Result<(), Fail> {
 fn a_shelf_that_drops(rt: HostRuntime) -> Result<(), Fail> {
     let (_, image) = ends_and_writes(&rt, rt.alloc(), "image", TRACE.as_bytes())?;
     let heap = "arena 0 heap 1\n5 67584 112\n";
-    for (line, input, text) in [
-        ("replay", TRACE.as_bytes(), REPORT),
-        ("serve", TRACE.as_bytes(), REPORT),
-        ("gc", TRACE.as_bytes(), REPORT),
-        ("recover", image.as_slice(), heap),
-    ] {
-        let mut shelf = DropShelf::new();
-        let (status, written) = ends_with(&rt, rt.alloc(), line, input, &OpenGate, &mut shelf)?;
-        assert_eq!(rt; status, Status::Done, "{line}");
-        assert_eq!(rt; written.as_slice(), text.as_bytes(), "{line}");
+    drops(&rt, rt.alloc(), "recover", &image, heap)?;
+    for line in ["replay", "serve", "gc"] {
+        drops(&rt, rt.alloc(), line, TRACE.as_bytes(), REPORT)?;
     }
+    Ok(())
+}
+
+// A run writes this text where its shelf drops what is put.
+fn drops<R: Abort + Threads + Wait + Sync>(
+    rt: &R,
+    alloc: Global,
+    line: &str,
+    input: &[u8],
+    text: &str,
+) -> Result<(), Fail> {
+    let mut shelf = DropShelf::new();
+    let (status, written) = ends_with(rt, alloc, line, input, &OpenGate, &mut shelf)?;
+    assert_eq!(rt; status, Status::Done, "{line}");
+    assert_eq!(rt; written.as_slice(), text.as_bytes(), "{line}");
     Ok(())
 }

@@ -1,24 +1,21 @@
 // Runs that write a word of a block: the heap of a crash meanwhile, and the word on the device.
-use crate::runs::{tells, word_after};
+use crate::crashes::crash_leaves;
+use crate::runs::word_after;
 use std::test::Fail;
 
 // Whatever the seed, the heap of a crash within a write is the one before it and after it.
 #[test]
 fn in_a_write(rt: HostRuntime) -> Result<(), Fail> {
     let trace = "pool 1 16\n0 0 m 1 16\n0 0 w 1 1 5\n";
-    for event in 90..=92u32 {
-        for seed in 0..3u32 {
-            let words = format!(in rt.alloc(); "crash 0 {event} {seed}")?;
-            let (code, text) = tells(&rt, rt.alloc(), &words, trace.as_bytes())?;
-            assert_eq!(rt; code, 0, "{words}");
-            assert_eq!(rt;
-                text.as_str(),
-                "call 2 same\nheap 1\n1 67584 16\n",
-                "{words}"
-            );
-        }
-    }
-    Ok(())
+    let text = "call 2 same\nheap 1\n1 67584 16\n";
+    crash_leaves(
+        &rt,
+        rt.alloc(),
+        "crash 0",
+        trace,
+        3,
+        &[(90, 92, text, text)],
+    )
 }
 
 // The word stands in the block, and those beside it are as they were.
