@@ -164,18 +164,36 @@ fn by_one_caller(
     trace: &Trace,
     mut arenas: Vec<Arena<SimPmem>>,
 ) -> Result<Vec<usize>, OutOfMemory> {
-    let mut journals: Vec<Vec<Entry>> = Vec::new(alloc);
-    for _ in 0..arenas.len() {
+    let mut journals = empty_journals(alloc, arenas.len())?;
+    make_each(&mut arenas, &mut journals, &trace.calls)?;
+    lengths(alloc, &journals)
+}
+
+fn empty_journals(alloc: Global, arenas: usize) -> Result<Vec<Vec<Entry>>, OutOfMemory> {
+    let mut journals = Vec::new(alloc);
+    for _ in 0..arenas {
         journals.push(Vec::new(alloc))?;
     }
-    for call in trace.calls.iter() {
+    Ok(journals)
+}
+
+fn make_each(
+    arenas: &mut [Arena<SimPmem>],
+    journals: &mut [Vec<Entry>],
+    calls: &[TraceCall],
+) -> Result<(), OutOfMemory> {
+    for call in calls {
         let at = call.arena as usize;
         if let (Some(arena), Some(journal)) = (arenas.get_mut(at), journals.get_mut(at)) {
             journal.push(answer(arena, call.thread % 64, call.call))?;
         }
     }
+    Ok(())
+}
+
+fn lengths(alloc: Global, journals: &[Vec<Entry>]) -> Result<Vec<usize>, OutOfMemory> {
     let mut counts = Vec::new(alloc);
-    for journal in journals.iter() {
+    for journal in journals {
         counts.push(journal.len())?;
     }
     Ok(counts)
@@ -259,17 +277,38 @@ fn time_calls<R: Runtime + Threads + Wait + Sync>(
     requires all { length arenas.items ≡ trace.now.arenas }
 {
     let begun = Instant::now(rt)?;
-    let counts = match caller {
-        Caller::Workers => by_workers(rt, alloc, trace, arenas)?,
-        Caller::Alone => by_one_caller(alloc, trace, arenas)?,
-        Caller::Queue if arenas.len() == 1 => by_queue(rt, alloc, trace, arenas)?,
-        Caller::Queue => return Err(Fault::NoTrace),
-    };
+    let counts = made_by(rt, alloc, caller, trace, arenas)?;
     let took = begun.elapsed(rt)?.as_nanos();
+    report(rt, &counts, took, trace.calls.len())
+}
+
+/// Has the caller make the calls, and gives the number of entries of each arena.
+fn made_by<R: Threads + Wait + Sync>(
+    rt: &R,
+    alloc: Global,
+    caller: Caller,
+    trace: &Trace,
+    arenas: Vec<Arena<SimPmem>>,
+) -> Result<Vec<usize>, Fault>
+    requires pool { IsPool (pool_of trace.now) }
+    requires each { All (IsTraceCall trace.now.arenas) trace.now.calls.items }
+    requires few { length trace.now.calls.items < 2 ^ 32 }
+    requires all { length arenas.items ≡ trace.now.arenas }
+{
+    match caller {
+        Caller::Workers => Ok(by_workers(rt, alloc, trace, arenas)?),
+        Caller::Alone => Ok(by_one_caller(alloc, trace, arenas)?),
+        Caller::Queue if arenas.len() == 1 => Ok(by_queue(rt, alloc, trace, arenas)?),
+        Caller::Queue => Err(Fault::NoTrace),
+    }
+}
+
+/// Writes how many calls each arena had, and how long they took, in nanoseconds.
+fn report<R: Runtime>(rt: &R, counts: &[usize], took: u128, calls: usize) -> Result<(), Fault> {
     for (arena, count) in counts.iter().enumerate() {
         println!(rt; "arena {arena} calls {count}")?;
     }
-    let each = took / (trace.calls.len() as u128).max(1);
+    let each = took / (calls as u128).max(1);
     eprintln!(rt; "{} ms, {each} ns a call", took / 1_000_000)?;
     Ok(())
 }
