@@ -11,8 +11,8 @@ use std::alloc::Global;
 /// A new arena of 16 granules, on a memory of zeros with room for 2048 events.
 #[tactic(auto, using(arena_core::proofs::Readiness::first_room, arena_core::proofs::Readiness::first_most))]
 pub(crate) fn new_arena(alloc: Global) -> Result<Arena<SimPmem>, OutOfMemory> {
-    let room = ArenaRoom::new(alloc, 16)?;
     let device = SimPmem::zeroed(alloc, 4096, 2048)?;
+    let room = ArenaRoom::new(alloc, 16)?;
     Ok(Arena::format(room, device, 0, 1))
 }
 
@@ -22,8 +22,8 @@ pub(crate) fn second_arena(alloc: Global, granules: u32) -> Result<Arena<SimPmem
     requires least { 25 ≤ granules }
     requires most { granules ≤ 4096 }
 {
-    let room = ArenaRoom::new(alloc, granules)?;
     let device = SimPmem::zeroed(alloc, 256 * granules, 4096)?;
+    let room = ArenaRoom::new(alloc, granules)?;
     Ok(Arena::format_v2(room, device, 0, 1))
 }
 

@@ -62,7 +62,9 @@ fn new_arena_holds<R: Abort>(
     requires most { granules ≤ 4096 }
 {
     let mut arena = second_arena(alloc, granules)?;
-    holds(rt, &mut arena, size, count, last)
+    let tested = holds(rt, &mut arena, size, count, last);
+    drop(arena);
+    tested
 }
 
 // The heap has 12 granules: six blocks of two, three slabs of three blocks of 16384 bytes, or one block of all.
@@ -129,5 +131,7 @@ fn end_where_they_end<R: Abort>(rt: &R, arena: &mut Arena<SimPmem>) -> Result<()
 #[test]
 fn ends_of_ranges(rt: HostRuntime) -> Result<(), Fail> {
     let mut arena = second_arena(rt.alloc(), 25)?;
-    end_where_they_end(&rt, &mut arena)
+    let tested = end_where_they_end(&rt, &mut arena);
+    drop(arena);
+    tested
 }

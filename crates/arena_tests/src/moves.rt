@@ -110,7 +110,9 @@ fn all_move<R: Abort>(rt: &R, arena: &mut Arena<SimPmem>) -> Result<(), Fail> {
 #[test]
 fn blocks_move(rt: HostRuntime) -> Result<(), Fail> {
     let mut arena = new_arena(rt.alloc())?;
-    all_move(&rt, &mut arena)
+    let tested = all_move(&rt, &mut arena);
+    drop(arena);
+    tested
 }
 
 // Of two reasons the first is answered. A refusal has no event.
@@ -143,7 +145,9 @@ fn all_refused<R: Abort>(rt: &R, arena: &mut Arena<SimPmem>) -> Result<(), Fail>
 #[test]
 fn refusals_in_their_order(rt: HostRuntime) -> Result<(), Fail> {
     let mut arena = new_arena(rt.alloc())?;
-    all_refused(&rt, &mut arena)
+    let tested = all_refused(&rt, &mut arena);
+    drop(arena);
+    tested
 }
 
 // A word, where there is one.
@@ -208,5 +212,7 @@ fn held_after_each<R: Abort>(
 #[test]
 fn crashes_within(rt: HostRuntime) -> Result<(), Fail> {
     let mut arena = new_arena(rt.alloc())?;
-    held_after_each(&rt, rt.alloc(), &mut arena)
+    let tested = held_after_each(&rt, rt.alloc(), &mut arena);
+    drop(arena);
+    tested
 }

@@ -53,7 +53,9 @@ fn lie_across_two_lines<R: Abort>(rt: &R, arena: &mut Arena<SimPmem>) -> Result<
 #[test]
 fn across_two_lines(rt: HostRuntime) -> Result<(), Fail> {
     let mut arena = new_arena(rt.alloc())?;
-    lie_across_two_lines(&rt, &mut arena)
+    let tested = lie_across_two_lines(&rt, &mut arena);
+    drop(arena);
+    tested
 }
 
 // What lies past the end is refused, with no event, also where no words are written.
@@ -98,7 +100,9 @@ fn end_with_their_block<R: Abort>(rt: &R, arena: &mut Arena<SimPmem>) -> Result<
 #[test]
 fn at_the_end(rt: HostRuntime) -> Result<(), Fail> {
     let mut arena = new_arena(rt.alloc())?;
-    end_with_their_block(&rt, &mut arena)
+    let tested = end_with_their_block(&rt, &mut arena);
+    drop(arena);
+    tested
 }
 
 fn have_no_block<R: Abort>(rt: &R, arena: &mut Arena<SimPmem>) -> Result<(), Fail> {
@@ -117,7 +121,9 @@ fn have_no_block<R: Abort>(rt: &R, arena: &mut Arena<SimPmem>) -> Result<(), Fai
 #[test]
 fn no_block(rt: HostRuntime) -> Result<(), Fail> {
     let mut arena = new_arena(rt.alloc())?;
-    have_no_block(&rt, &mut arena)
+    let tested = have_no_block(&rt, &mut arena);
+    drop(arena);
+    tested
 }
 
 fn are_the_longest<R: Abort>(rt: &R, arena: &mut Arena<SimPmem>) -> Result<(), Fail> {
@@ -140,7 +146,9 @@ fn are_the_longest<R: Abort>(rt: &R, arena: &mut Arena<SimPmem>) -> Result<(), F
 #[test]
 fn the_longest(rt: HostRuntime) -> Result<(), Fail> {
     let mut arena = new_arena(rt.alloc())?;
-    are_the_longest(&rt, &mut arena)
+    let tested = are_the_longest(&rt, &mut arena);
+    drop(arena);
+    tested
 }
 
 fn stay_while_others_come_and_go<R: Abort>(rt: &R, arena: &mut Arena<SimPmem>) -> Result<(), Fail> {
@@ -162,5 +170,7 @@ fn stay_while_others_come_and_go<R: Abort>(rt: &R, arena: &mut Arena<SimPmem>) -
 #[test]
 fn others_come_and_go(rt: HostRuntime) -> Result<(), Fail> {
     let mut arena = new_arena(rt.alloc())?;
-    stay_while_others_come_and_go(&rt, &mut arena)
+    let tested = stay_while_others_come_and_go(&rt, &mut arena);
+    drop(arena);
+    tested
 }

@@ -56,7 +56,7 @@ fn first_arena(alloc: Global, granules: u32) -> Result<GcArena<SimPmem>, OutOfMe
     requires least { 16 ≤ granules }
     requires most { granules ≤ 1024 }
 {
-    let room = GcRoom::new(alloc, granules)?;
     let device = SimPmem::zeroed(alloc, 256 * granules, 2048)?;
+    let room = GcRoom::new(alloc, granules)?;
     Ok(GcArena::format(room, device, 0, 1))
 }

@@ -57,8 +57,8 @@ fn first_arena(alloc: Global, granules: u32) -> Result<Arena<SimPmem>, OutOfMemo
     requires least { 16 ≤ granules }
     requires most { granules ≤ 1024 }
 {
-    let room = ArenaRoom::new(alloc, granules)?;
     let device = SimPmem::zeroed(alloc, 256 * granules, 2048)?;
+    let room = ArenaRoom::new(alloc, granules)?;
     Ok(Arena::format(room, device, 0, 1))
 }
 
@@ -68,7 +68,7 @@ fn second_arena(alloc: Global, granules: u32) -> Result<Arena<SimPmem>, OutOfMem
     requires least { 25 ≤ granules }
     requires most { granules ≤ 4096 }
 {
-    let room = ArenaRoom::new(alloc, granules)?;
     let device = SimPmem::zeroed(alloc, 256 * granules, 4096)?;
+    let room = ArenaRoom::new(alloc, granules)?;
     Ok(Arena::format_v2(room, device, 0, 1))
 }

@@ -74,7 +74,9 @@ fn seek(alloc: Global, script: &Script, event: u64, seed: u64) -> Result<Sought,
     ensures { IfOk result (IsSought script.now.granules (calls_of script.now) event seed) }
 {
     let mut dict = format_new(alloc, script.granules)?;
-    seek_in(&mut dict, script, Watch::new(alloc, event, seed))
+    let sought = seek_in(&mut dict, script, Watch::new(alloc, event, seed));
+    drop(dict);
+    sought
 }
 
 // The dictionary of a new arena of so many granules, on a simulated device.

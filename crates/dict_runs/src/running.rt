@@ -33,8 +33,13 @@ pub fn run_script<P: Pmem + Drop>(
     ensures { IfOk result (λ left. HasReported script.now.granules (calls_of script.now) (P.state left) out.old.items out.new.items) }
 {
     let mut dict = new_dict(alloc, device, script.granules)?;
-    report(&mut dict, script, out)?;
-    Ok(dict.into_arena().into_pmem())
+    match report(&mut dict, script, out) {
+        Ok(()) => Ok(dict.into_arena().into_pmem()),
+        Err(fault) => {
+            drop(dict);
+            Err(fault)
+        }
+    }
 }
 
 // Makes the calls on a new dictionary, and writes what comes of them.

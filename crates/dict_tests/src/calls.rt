@@ -16,8 +16,8 @@ use std::test::Fail;
 
 /// An arena of 16 granules in which no root names a block.
 pub(crate) fn new_arena(alloc: Global) -> Result<Arena<SimPmem>, OutOfMemory> {
-    let room = ArenaRoom::new(alloc, 16)?;
     let device = SimPmem::zeroed(alloc, 4096, 2048)?;
+    let room = ArenaRoom::new(alloc, 16)?;
     Ok(Arena::format(room, device, 0, 1))
 }
 
@@ -27,7 +27,10 @@ pub(crate) fn opened(alloc: Global, arena: Arena<SimPmem>) -> Result<Dict<SimPme
 {
     match Dict::open(alloc, arena) {
         Ok(dict) => Ok(dict),
-        Err(_) => Err(Fail::from("no dictionary")),
+        Err((_, arena)) => {
+            drop(arena);
+            Err(Fail::from("no dictionary"))
+        }
     }
 }
 
@@ -135,7 +138,9 @@ fn looks<R: Abort>(rt: &R, dict: &Dict<SimPmem>) -> Result<(), Fail> {
 // The same of what is opened of the dictionary's arena.
 fn looks_again<R: Abort>(rt: &R, alloc: Global, dict: Dict<SimPmem>) -> Result<(), Fail> {
     let again = opened(alloc, dict.into_arena())?;
-    looks(rt, &again)
+    let looked = looks(rt, &again);
+    drop(again);
+    looked
 }
 
 // It is changed, and looked at.
@@ -152,7 +157,10 @@ fn pairs_are_put_read_and_removed(rt: HostRuntime) -> Result<(), Fail> {
     let mut dict = opened(rt.alloc(), new_arena(rt.alloc())?)?;
     match changes(&rt, &mut dict) {
         Ok(()) => looks_again(&rt, rt.alloc(), dict),
-        Err(fail) => Err(fail),
+        Err(fail) => {
+            drop(dict);
+            Err(fail)
+        }
     }
 }
 
@@ -182,5 +190,7 @@ fn put_around_a_removal<R: Abort>(rt: &R, dict: &mut Dict<SimPmem>) -> Result<()
 #[test]
 fn numbers_fall_with_their_pairs(rt: HostRuntime) -> Result<(), Fail> {
     let mut dict = opened(rt.alloc(), new_arena(rt.alloc())?)?;
-    put_around_a_removal(&rt, &mut dict)
+    let put = put_around_a_removal(&rt, &mut dict);
+    drop(dict);
+    put
 }

@@ -34,7 +34,10 @@ fn opened_of(alloc: Global, image: &[u64]) -> Result<Dict<SimPmem>, Fail>
     }
     match recover(alloc, SimPmem::from_image(alloc, image, 4096)?) {
         Ok(arena) => opened(alloc, arena),
-        Err(_) => Err(Fail::from("no arena")),
+        Err((_, device)) => {
+            drop(device);
+            Err(Fail::from("no arena"))
+        }
     }
 }
 
@@ -67,7 +70,9 @@ fn is_tidied_behind<R: Abort>(
     word: u64,
 ) -> Result<(), Fail> {
     let mut dict = reopened(alloc, device, k, seed)?;
-    is_tidied(rt, &mut dict, root, word)
+    let tidied = is_tidied(rt, &mut dict, root, word);
+    drop(dict);
+    tidied
 }
 
 // So it is of the images behind the first `from` events of a device's last call, and behind more of them.
@@ -105,5 +110,7 @@ fn cut_put<R: Abort>(rt: &R, alloc: Global, dict: &mut Dict<SimPmem>) -> Result<
 #[test]
 fn a_put_is_cut_off(rt: HostRuntime) -> Result<(), Fail> {
     let mut dict = opened(rt.alloc(), new_arena(rt.alloc())?)?;
-    cut_put(&rt, rt.alloc(), &mut dict)
+    let cut = cut_put(&rt, rt.alloc(), &mut dict);
+    drop(dict);
+    cut
 }

@@ -40,17 +40,34 @@ fn lay_all(arena: &mut Arena<SimPmem>, blocks: &[Laid<'_>]) -> Result<(), Fail> 
 // The root that is told of an arena, where it is no dictionary.
 fn told(alloc: Global, arena: Arena<SimPmem>) -> Result<Option<u32>, Fail> {
     match Dict::open(alloc, arena) {
-        Ok(_) => Ok(None),
-        Err((OpenFault::NotDict { root }, _)) => Ok(Some(root)),
-        Err((OpenFault::Memory(_), _)) => Err(Fail::from("no memory")),
+        Ok(dict) => {
+            drop(dict);
+            Ok(None)
+        }
+        Err((fault, arena)) => {
+            drop(arena);
+            root_of(fault)
+        }
+    }
+}
+
+fn root_of(fault: OpenFault) -> Result<Option<u32>, Fail> {
+    match fault {
+        OpenFault::NotDict { root } => Ok(Some(root)),
+        OpenFault::Memory(_) => Err(Fail::from("no memory")),
     }
 }
 
 // An arena with these blocks.
 fn arena_with(alloc: Global, blocks: &[Laid<'_>]) -> Result<Arena<SimPmem>, Fail> {
     let mut arena = new_arena(alloc)?;
-    lay_all(&mut arena, blocks)?;
-    Ok(arena)
+    match lay_all(&mut arena, blocks) {
+        Ok(()) => Ok(arena),
+        Err(fail) => {
+            drop(arena);
+            Err(fail)
+        }
+    }
 }
 
 // What is told of it.

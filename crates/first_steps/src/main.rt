@@ -29,8 +29,8 @@ fn main(rt: HostRuntime) -> Result<()> {
 
 // An arena of 16 granules, which are 4096 lines. No call has more than 2048 events.
 fn new_arena(alloc: Global) -> Result<Arena<SimPmem>> {
-    let room = ArenaRoom::new(alloc, 16)?;
     let device = SimPmem::zeroed(alloc, 16 * 256, 2048)?;
+    let room = ArenaRoom::new(alloc, 16)?;
     Ok(Arena::format(room, device, 0, 1))
 }
 

@@ -54,8 +54,19 @@ fn recovery_of(alloc: Global, before: &[u64], wanted: &[u64]) -> Result<Became, 
     let device = SimPmem::from_image(alloc, before, ROOM)?;
     match recover_device(alloc, device) {
         Ok(done) => Ok(recovered_to(&done.device, wanted)),
-        Err((GcFault::Memory(error), _)) => Err(error),
-        Err((GcFault::Defect(defect), device)) => Ok(was_refused(&device, before, defect)),
+        Err((fault, device)) => {
+            let refused = refused_by(fault, &device, before);
+            drop(device);
+            refused
+        }
+    }
+}
+
+// A device that was refused, if it was not memory that lacked.
+fn refused_by(fault: GcFault, device: &SimPmem, before: &[u64]) -> Result<Became, OutOfMemory> {
+    match fault {
+        GcFault::Memory(error) => Err(error),
+        GcFault::Defect(defect) => Ok(was_refused(device, before, defect)),
     }
 }
 

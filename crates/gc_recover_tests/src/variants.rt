@@ -27,8 +27,8 @@ const ANY_ROOM: u32 = 4096;
 // The memory of an arena of the LOG variant, in which root 5 has a small block.
 #[tactic(auto, using(arena_core::proofs::Readiness::first_room, arena_core::proofs::Readiness::first_most))]
 fn log_memory(alloc: Global) -> Result<SimPmem, OutOfMemory> {
-    let room = ArenaRoom::new(alloc, GRANULES)?;
     let device = SimPmem::zeroed(alloc, 256 * GRANULES, ROOM)?;
+    let room = ArenaRoom::new(alloc, GRANULES)?;
     let mut arena = Arena::format(room, device, 0, 1);
     let _placed = arena.malloc_to(0, 5, 100);
     Ok(arena.into_pmem())
@@ -37,8 +37,8 @@ fn log_memory(alloc: Global) -> Result<SimPmem, OutOfMemory> {
 // The same of this variant.
 #[tactic(auto, using(arena_core::proofs::Readiness::first_room))]
 fn gc_memory(alloc: Global) -> Result<SimPmem, OutOfMemory> {
-    let room = GcRoom::new(alloc, GRANULES)?;
     let device = SimPmem::zeroed(alloc, 256 * GRANULES, ROOM)?;
+    let room = GcRoom::new(alloc, GRANULES)?;
     let mut arena = GcArena::format(room, device, 0, 1);
     let _placed = arena.malloc_to(0, 5, 100);
     Ok(arena.into_pmem())

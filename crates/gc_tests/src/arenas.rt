@@ -15,8 +15,8 @@ pub(crate) fn arena_of(alloc: Global, granules: u32) -> Result<GcArena<SimPmem>,
     requires least { 16 ≤ granules }
     requires most { granules ≤ 64 }
 {
-    let room = GcRoom::new(alloc, granules)?;
     let device = SimPmem::zeroed(alloc, 256 * granules, 2048)?;
+    let room = GcRoom::new(alloc, granules)?;
     Ok(GcArena::format(room, device, 0, 1))
 }
 

@@ -16,6 +16,7 @@ fn rolls(arena: &mut GcArena<SimPmem>) -> bool {
 fn a_log_rolls(rt: HostRuntime) -> Result<(), Fail> {
     let mut arena = new_arena(rt.alloc())?;
     let right = rolls(&mut arena);
+    drop(arena);
     assert!(&rt; right);
     Ok(())
 }
@@ -43,6 +44,7 @@ fn rewrites(arena: &mut GcArena<SimPmem>) -> bool {
 fn a_log_is_rewritten(rt: HostRuntime) -> Result<(), Fail> {
     let mut arena = arena_of(rt.alloc(), 64)?;
     let right = rewrites(&mut arena);
+    drop(arena);
     assert!(&rt; right);
     Ok(())
 }

@@ -20,6 +20,7 @@ fn stacked(arena: &mut GcArena<SimPmem>) -> bool {
 fn order_of_a_stack(rt: HostRuntime) -> Result<(), Fail> {
     let mut arena = new_arena(rt.alloc())?;
     let right = stacked(&mut arena);
+    drop(arena);
     assert!(&rt; right);
     Ok(())
 }
@@ -48,6 +49,7 @@ fn fits_not(arena: &mut GcArena<SimPmem>, first: u64, blocks: u32, second: u64) 
 fn many_small_blocks_are_few(rt: HostRuntime) -> Result<(), Fail> {
     let mut arena = new_arena(rt.alloc())?;
     let right = fits(&mut arena, 64, 64, 1000, 202752, 1024);
+    drop(arena);
     assert!(&rt; right);
     Ok(())
 }
@@ -56,6 +58,7 @@ fn many_small_blocks_are_few(rt: HostRuntime) -> Result<(), Fail> {
 fn one_small_block_more_is_too_many(rt: HostRuntime) -> Result<(), Fail> {
     let mut arena = new_arena(rt.alloc())?;
     let right = fits_not(&mut arena, 64, 65, 1000);
+    drop(arena);
     assert!(&rt; right);
     Ok(())
 }
@@ -64,6 +67,7 @@ fn one_small_block_more_is_too_many(rt: HostRuntime) -> Result<(), Fail> {
 fn a_fifth_of_the_slab_is_few(rt: HostRuntime) -> Result<(), Fail> {
     let mut arena = new_arena(rt.alloc())?;
     let right = fits(&mut arena, 1000, 12, 64, 210944, 64);
+    drop(arena);
     assert!(&rt; right);
     Ok(())
 }
@@ -72,6 +76,7 @@ fn a_fifth_of_the_slab_is_few(rt: HostRuntime) -> Result<(), Fail> {
 fn more_than_a_fifth_is_too_many(rt: HostRuntime) -> Result<(), Fail> {
     let mut arena = new_arena(rt.alloc())?;
     let right = fits_not(&mut arena, 1000, 13, 64);
+    drop(arena);
     assert!(&rt; right);
     Ok(())
 }
@@ -92,6 +97,7 @@ fn covered(arena: &mut GcArena<SimPmem>) -> bool {
 fn a_transition_ends(rt: HostRuntime) -> Result<(), Fail> {
     let mut arena = new_arena(rt.alloc())?;
     let right = covered(&mut arena);
+    drop(arena);
     assert!(&rt; right);
     Ok(())
 }

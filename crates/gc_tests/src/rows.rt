@@ -49,6 +49,7 @@ fn first_block(arena: &mut GcArena<SimPmem>) -> bool {
 fn ordinary_use(rt: HostRuntime) -> Result<(), Fail> {
     let mut arena = new_arena(rt.alloc())?;
     let right = first_block(&mut arena);
+    drop(arena);
     assert!(&rt; right);
     Ok(())
 }
@@ -92,6 +93,7 @@ fn morphed(arena: &mut GcArena<SimPmem>) -> bool {
 fn a_slab_takes_a_class(rt: HostRuntime) -> Result<(), Fail> {
     let mut arena = new_arena(rt.alloc())?;
     let right = morphed(&mut arena);
+    drop(arena);
     assert!(&rt; right);
     Ok(())
 }
@@ -115,6 +117,7 @@ fn come_and_go(arena: &mut GcArena<SimPmem>) -> bool {
 fn blocks_go(rt: HostRuntime) -> Result<(), Fail> {
     let mut arena = new_arena(rt.alloc())?;
     let right = come_and_go(&mut arena);
+    drop(arena);
     assert!(&rt; right);
     Ok(())
 }
@@ -141,6 +144,7 @@ fn refused_beside_a_block(arena: &mut GcArena<SimPmem>) -> bool {
 fn nothing_is_done(rt: HostRuntime) -> Result<(), Fail> {
     let mut arena = new_arena(rt.alloc())?;
     let right = refused_beside_a_block(&mut arena);
+    drop(arena);
     assert!(&rt; right);
     Ok(())
 }
@@ -174,6 +178,7 @@ fn given_and_written(arena: &mut GcArena<SimPmem>) -> bool {
 fn words_of_a_block(rt: HostRuntime) -> Result<(), Fail> {
     let mut arena = new_arena(rt.alloc())?;
     let right = given_and_written(&mut arena);
+    drop(arena);
     assert!(&rt; right);
     Ok(())
 }

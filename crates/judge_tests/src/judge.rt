@@ -5,8 +5,10 @@ mod changed;
 mod known;
 
 use crate::machine::calls::{Asked, Pool, calls_at, numbered, pool_of};
-use crate::machine::{Counts, Machine, Seats};
+use crate::machine::{Counts, Machine, Reply, Seats};
 use std::alloc::{AllocError, Global};
+use std::process::Abort;
+use std::test::Fail;
 
 /// What the judge says of a report.
 #[derive(Clone, Copy, Debug, PartialEq, Eq)]
@@ -89,8 +91,18 @@ fn is_answered(
     };
     let seat = seats.at(asked.arena, thread);
     let reply = machine.answer(alloc, seat, asked.call)?;
+    is_line(alloc, line, thread, asked.text, reply)
+}
+
+// A line says a thread's call and a reply.
+fn is_line(
+    alloc: Global,
+    line: &str,
+    thread: u64,
+    text: &str,
+    reply: Reply,
+) -> Result<bool, AllocError> {
     let said = reply.text(alloc, last_number(line))?;
-    let text = asked.text;
     let wanted = format!(in alloc; "{thread} {text} {said}")?;
     Ok(line == wanted.as_str())
 }
@@ -121,24 +133,61 @@ fn judge_arena(
     lines: &mut Lines<'_>,
 ) -> Result<Option<Counts>, AllocError> {
     let mut left = calls_at(alloc, trace, arena)?;
+    judge_calls(alloc, seats, arena, pool, &mut left, lines)
+}
+
+// The same, by the calls that are asked of the arena.
+fn judge_calls(
+    alloc: Global,
+    seats: Seats,
+    arena: u64,
+    pool: Pool,
+    left: &mut Vec<Asked<'_>>,
+    lines: &mut Lines<'_>,
+) -> Result<Option<Counts>, AllocError> {
     let mut machine = Machine::new(alloc, pool);
+    if is_journal(alloc, seats, arena, &mut machine, left, lines)?
+        && is_heap(alloc, &machine, lines)?
+    {
+        return Ok(Some(machine.counts));
+    }
+    Ok(None)
+}
+
+// The next lines are a journal of these calls, with the machine's replies.
+fn is_journal(
+    alloc: Global,
+    seats: Seats,
+    arena: u64,
+    machine: &mut Machine,
+    left: &mut Vec<Asked<'_>>,
+    lines: &mut Lines<'_>,
+) -> Result<bool, AllocError> {
     let count = left.len();
     let heading = format!(in alloc; "arena {arena} calls {count}")?;
     if !lines.is_next(&heading) {
-        return Ok(None);
+        return Ok(false);
     }
-    for _ in 0..count {
+    are_answered(alloc, seats, machine, left, lines)
+}
+
+// The next lines are all calls that are left, with the machine's replies.
+fn are_answered(
+    alloc: Global,
+    seats: Seats,
+    machine: &mut Machine,
+    left: &mut Vec<Asked<'_>>,
+    lines: &mut Lines<'_>,
+) -> Result<bool, AllocError> {
+    for _ in 0..left.len() {
         let Some(line) = lines.next() else {
-            return Ok(None);
+            return Ok(false);
         };
-        if !is_answered(alloc, seats, &mut machine, &mut left, line)? {
-            return Ok(None);
+        if !is_answered(alloc, seats, machine, left, line)? {
+            return Ok(false);
         }
     }
-    if !is_heap(alloc, &machine, lines)? {
-        return Ok(None);
-    }
-    Ok(Some(machine.counts))
+    Ok(true)
 }
 
 /// Judges a report of a trace: each line's reply is the machine's by these seats, where the word that a read finds unwritten may
@@ -166,4 +215,38 @@ pub(crate) fn judge(
         return Ok(Verdict::WrongAt(lines.read));
     }
     Ok(Verdict::Right(counts))
+}
+
+/// The judge finds a report of a trace right. How often each way of a malloc came.
+pub(crate) fn finds_right<R: Abort>(
+    rt: &R,
+    alloc: Global,
+    seats: Seats,
+    trace: &str,
+    report: &str,
+) -> Result<Counts, Fail> {
+    let verdict = judge(alloc, seats, trace, report)?;
+    assert!(rt;
+        verdict.is_right(),
+        "{verdict:?} by {seats:?} of {report} of {trace}"
+    );
+    Ok(verdict.counts())
+}
+
+/// The judge refuses a report of a trace at this line.
+pub(crate) fn finds_wrong<R: Abort>(
+    rt: &R,
+    alloc: Global,
+    seats: Seats,
+    trace: &str,
+    report: &str,
+    line: usize,
+) -> Result<(), Fail> {
+    let verdict = judge(alloc, seats, trace, report)?;
+    assert_eq!(rt;
+        verdict,
+        Verdict::WrongAt(line),
+        "by {seats:?} of {report} of {trace}"
+    );
+    Ok(())
 }

@@ -4,7 +4,7 @@ pub(crate) mod generated;
 
 ghost use Rattle.std.specs.Prelude.{◌<◌, length, IfSome};
 
-use crate::judge::judge;
+use crate::judge::finds_right;
 use crate::machine::calls::{Pool, calls_at, pool_of};
 use crate::machine::{Counts, Machine, Seats};
 use crate::threads::generated::{Made, of_seed, on_one_thread, trace};
@@ -97,12 +97,7 @@ pub(crate) fn judged<R: Abort + Threads + Wait + Sync>(
     let (word, seats) = command;
     let written = tells(rt, alloc, word, trace.as_bytes(), most)?;
     let report = str::from_utf8(&written)?;
-    let verdict = judge(alloc, seats, trace, report)?;
-    assert!(rt;
-        verdict.is_right(),
-        "{verdict:?} of {report} of {word} of {trace}"
-    );
-    Ok(verdict.counts())
+    finds_right(rt, alloc, seats, trace, report)
 }
 
 // The traces of four threads, whose calls come in turns. Which order they come in is not said, and so not how often each way does.

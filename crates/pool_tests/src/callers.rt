@@ -45,9 +45,16 @@ pub(crate) fn empty_arena(
 ) -> Result<Arena<SimPmem>, OutOfMemory>
     requires { (number < arenas) × (arenas ≤ 16) }
 {
-    let room = ArenaRoom::new(alloc, 16)?;
     let device = SimPmem::zeroed(alloc, 4096, 2048)?;
+    let room = ArenaRoom::new(alloc, 16)?;
     Ok(Arena::format(room, device, number, arenas))
+}
+
+/// The arenas of a pool that has one.
+pub(crate) fn one_arena(alloc: Global) -> Result<Vec<Arena<SimPmem>>, OutOfMemory>
+    ensures { IfOk result (λ arenas. length arenas.items ≡ 1) }
+{
+    Ok(vec![in alloc; empty_arena(alloc, 0, 1)?]?)
 }
 
 /// A lock over an empty arena with its journal, and its two seats.

@@ -7,7 +7,7 @@ ghost use Rattle.shared_pool.specs.Passes.{IsPassOf};
 ghost use Rattle.pool_tests.specs.CallsLeft.{CanCall};
 
 use crate::callers::{
-    Caller, TriedCall, arena_lock_of_two, close, empty_arena, pool_of, start_and_close,
+    Caller, TriedCall, arena_lock_of_two, close, empty_arena, one_arena, pool_of, start_and_close,
 };
 use crate::threads::try_beside_a_store;
 use crate::watched::{Flags, Watched};
@@ -62,9 +62,10 @@ fn made<R: Abort>(rt: &R, tried: Result<Receipt, TryRefusal>) -> Result<Receipt,
 #[test]
 fn one_root_for_two_passes(rt: HostRuntime) -> Result<(), OutOfMemory> {
     let alloc = rt.alloc();
-    let arenas = vec![in alloc; empty_arena(alloc, 0, 1)?]?;
-    let (pool, mut zero, mut one) = pool_of(alloc, arenas)?;
-    ask_for_one_root(&rt, alloc, &pool, &mut zero, &mut one)
+    let (pool, mut zero, mut one) = pool_of(alloc, one_arena(alloc)?)?;
+    let asked = ask_for_one_root(&rt, alloc, &pool, &mut zero, &mut one);
+    drop(pool);
+    asked
 }
 
 fn ask_for_one_root<R: Abort + Wait>(
@@ -97,9 +98,10 @@ fn ask_for_one_root<R: Abort + Wait>(
 #[test]
 fn lengths_of_a_journal(rt: HostRuntime) -> Result<(), OutOfMemory> {
     let alloc = rt.alloc();
-    let arenas = vec![in alloc; empty_arena(alloc, 0, 1)?]?;
-    let (pool, mut zero, mut one) = pool_of(alloc, arenas)?;
-    ask_for_lengths(&rt, alloc, &pool, &mut zero, &mut one)
+    let (pool, mut zero, mut one) = pool_of(alloc, one_arena(alloc)?)?;
+    let asked = ask_for_lengths(&rt, alloc, &pool, &mut zero, &mut one);
+    drop(pool);
+    asked
 }
 
 fn ask_for_lengths<R: Abort + Wait>(
@@ -177,8 +179,7 @@ fn read_in_a_turn<R: Abort + Wait>(
 #[test]
 fn tries_on_one_thread(rt: HostRuntime) -> Result<(), OutOfMemory> {
     let alloc = rt.alloc();
-    let arenas = vec![in alloc; empty_arena(alloc, 0, 1)?]?;
-    let (pool, mut zero, one) = pool_of(alloc, arenas)?;
+    let (pool, mut zero, one) = pool_of(alloc, one_arena(alloc)?)?;
     let tries = try_one_root(&rt, alloc, &pool, &mut zero);
     close_behind_tries(&rt, alloc, pool, zero, one, tries)
 }
@@ -243,8 +244,7 @@ fn are_in_the_journal<R: Abort>(
 #[test]
 fn a_word_for_two_passes(rt: HostRuntime) -> Result<(), OutOfMemory> {
     let alloc = rt.alloc();
-    let arenas = vec![in alloc; empty_arena(alloc, 0, 1)?]?;
-    let (pool, mut zero, mut one) = pool_of(alloc, arenas)?;
+    let (pool, mut zero, mut one) = pool_of(alloc, one_arena(alloc)?)?;
     let passed = pass_a_word(&rt, alloc, &pool, &mut zero, &mut one);
     close_behind_a_word(&rt, alloc, pool, zero, one, passed)
 }
@@ -316,8 +316,8 @@ fn watched_arena(
 ) -> Result<Arena<Watched>, OutOfMemory>
     requires { number < 2 }
 {
-    let room = ArenaRoom::new(alloc, 16)?;
     let memory = Watched::new(SimPmem::zeroed(alloc, 4096, 2048)?, flags);
+    let room = ArenaRoom::new(alloc, 16)?;
     Ok(Arena::format(room, memory, number, 2))
 }
 
@@ -337,7 +337,9 @@ fn two_arenas_have_two_locks(rt: HostRuntime) -> Result<(), OutOfMemory> {
     let alloc = rt.alloc();
     let flags = Arc::new(alloc, Flags::new())?;
     let (pool, mut zero, mut one) = pool_of(alloc, watched_arenas(alloc, &flags)?)?;
-    try_while_a_call_stops(&rt, alloc, &pool, &mut zero, &mut one, &flags)
+    let tried = try_while_a_call_stops(&rt, alloc, &pool, &mut zero, &mut one, &flags);
+    drop(pool);
+    tried
 }
 
 fn try_while_a_call_stops<R: Abort + Threads + Wait + Sync>(

@@ -72,9 +72,28 @@ fn recovery_of(alloc: Global, before: &[u64], wanted: &[u64]) -> Result<Became, 
 {
     let device = SimPmem::from_image(alloc, before, ROOM)?;
     match recover(alloc, device) {
-        Ok(arena) => Ok(recovered_to(arena.pmem(), wanted)),
-        Err((RecoverFault::Memory(error), _)) => Err(error),
-        Err((RecoverFault::Defect(defect), device)) => Ok(was_refused(&device, before, defect)),
+        Ok(arena) => {
+            let became = recovered_to(arena.pmem(), wanted);
+            drop(arena);
+            Ok(became)
+        }
+        Err((fault, device)) => {
+            let refused = refused_by(fault, &device, before);
+            drop(device);
+            refused
+        }
+    }
+}
+
+// A device that was refused, if it was not memory that lacked.
+fn refused_by(
+    fault: RecoverFault,
+    device: &SimPmem,
+    before: &[u64],
+) -> Result<Became, OutOfMemory> {
+    match fault {
+        RecoverFault::Memory(error) => Err(error),
+        RecoverFault::Defect(defect) => Ok(was_refused(device, before, defect)),
     }
 }
 
@@ -289,7 +308,11 @@ pub fn crash_in_a_move(
     seed: u64,
 ) -> Result<Option<(u32, u32)>, OutOfMemory> {
     match arena_with(alloc, base, &[])? {
-        Some(mut arena) => cut_off(alloc, &mut arena, from, to, k, seed),
+        Some(mut arena) => {
+            let both = cut_off(alloc, &mut arena, from, to, k, seed);
+            drop(arena);
+            both
+        }
         None => Ok(None),
     }
 }

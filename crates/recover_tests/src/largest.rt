@@ -17,8 +17,8 @@ const WHOLE: Placed = Placed {
 };
 
 fn formatted(alloc: Global) -> Result<Arena<SimPmem>, OutOfMemory> {
-    let room = ArenaRoom::new(alloc, 1024)?;
     let device = SimPmem::zeroed(alloc, 262_144, 2048)?;
+    let room = ArenaRoom::new(alloc, 1024)?;
     Ok(Arena::format(room, device, 0, 1))
 }
 
@@ -46,6 +46,7 @@ fn gives_all<R: Abort>(
 fn is_formatted(rt: HostRuntime) -> Result<(), Fail> {
     let mut arena = formatted(rt.alloc())?;
     gives_all(&rt, &mut arena, 1024, 4095, WHOLE);
+    drop(arena);
     Ok(())
 }
 
@@ -118,8 +119,8 @@ const WHOLE_SECOND: Placed = Placed {
 
 #[tactic(auto, using(arena_core::proofs::Readiness::second_room, arena_core::proofs::Readiness::second_least, arena_core::proofs::Readiness::second_most), unfolding(pool_layout::specs::Layout::all_granules))]
 fn formatted_in_version_2(alloc: Global) -> Result<Arena<SimPmem>, OutOfMemory> {
-    let room = ArenaRoom::new(alloc, 4096)?;
     let device = SimPmem::zeroed(alloc, 1_048_576, 4096)?;
+    let room = ArenaRoom::new(alloc, 4096)?;
     Ok(Arena::format_v2(room, device, 0, 1))
 }
 
@@ -127,6 +128,7 @@ fn formatted_in_version_2(alloc: Global) -> Result<Arena<SimPmem>, OutOfMemory> 
 fn is_formatted_in_version_2(rt: HostRuntime) -> Result<(), Fail> {
     let mut arena = formatted_in_version_2(rt.alloc())?;
     gives_all(&rt, &mut arena, 4096, 16383, WHOLE_SECOND);
+    drop(arena);
     Ok(())
 }
 

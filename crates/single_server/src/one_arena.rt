@@ -23,8 +23,8 @@ pub struct Single<P: Pmem> {
 /// An arena of 16 granules over new memory.
 #[tactic(auto, using(arena_core::proofs::Readiness::first_room, arena_core::proofs::Readiness::first_most))]
 pub fn empty_arena(alloc: Global) -> Result<Arena<SimPmem>, OutOfMemory> {
-    let room = ArenaRoom::new(alloc, 16)?;
     let device = SimPmem::zeroed(alloc, 4096, 2048)?;
+    let room = ArenaRoom::new(alloc, 16)?;
     Ok(Arena::format(room, device, 0, 1))
 }
 

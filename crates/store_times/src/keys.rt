@@ -55,8 +55,13 @@ pub(crate) fn dict_with(alloc: Global, count: u32) -> Result<Dict<SimPmem>>
     ensures tidy { IfOk result (λ dict. AreNoneStale (words_of dict.arena.device) Idle) }
 {
     let mut dict = opened(alloc, new_arena(alloc)?)?;
-    fill(&mut dict, count)?;
-    Ok(dict)
+    match fill(&mut dict, count) {
+        Ok(()) => Ok(dict),
+        Err(error) => {
+            drop(dict);
+            Err(error)
+        }
+    }
 }
 
 /// The arena of such a dictionary.
@@ -67,8 +72,8 @@ pub(crate) fn arena_with(alloc: Global, count: u32) -> Result<Arena<SimPmem>> {
 
 // An arena in which no root names a block.
 fn new_arena(alloc: Global) -> Result<Arena<SimPmem>, OutOfMemory> {
-    let room = ArenaRoom::new(alloc, GRANULES)?;
     let device = SimPmem::zeroed(alloc, 256 * GRANULES, 2048)?;
+    let room = ArenaRoom::new(alloc, GRANULES)?;
     Ok(Arena::format(room, device, 0, 1))
 }
 
@@ -78,7 +83,10 @@ fn opened(alloc: Global, arena: Arena<SimPmem>) -> Result<Dict<SimPmem>>
 {
     match Dict::open(alloc, arena) {
         Ok(dict) => Ok(dict),
-        Err((fault, _arena)) => Err(fault.into()),
+        Err((fault, arena)) => {
+            drop(arena);
+            Err(fault.into())
+        }
     }
 }
 

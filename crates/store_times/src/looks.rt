@@ -23,7 +23,9 @@ pub(crate) struct Sums {
 /// A `get` of each of 4,000 keys, beside a view of each of their roots. The sums are those of all rounds.
 pub(crate) fn time_looks<C: Clock>(rt: &C, alloc: Global, rounds: u32) -> Result<(Best, Sums)> {
     let dict = dict_with(alloc, KEYS)?;
-    time_looks_at(rt, alloc, &dict, rounds)
+    let timed = time_looks_at(rt, alloc, &dict, rounds);
+    drop(dict);
+    timed
 }
 
 // The same at a dictionary with the keys.

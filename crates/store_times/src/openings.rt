@@ -35,6 +35,7 @@ fn opening_laps<C: Clock>(
         keys = found;
         best = best.or(opened, adopted);
     }
+    drop(arena);
     Ok((best, keys))
 }
 
@@ -61,10 +62,19 @@ fn adopt<C: Clock>(
     alloc: Global,
     arena: Arena<SimPmem>,
 ) -> Result<(Arena<SimPmem>, Option<u64>), OutOfMemory> {
-    let room = ArenaRoom::new(alloc, arena.granules())?;
-    let device = arena.into_pmem();
+    match ArenaRoom::new(alloc, arena.granules()) {
+        Ok(room) => Ok(adopt_into(rt, room, arena.into_pmem())),
+        Err(error) => {
+            drop(arena);
+            Err(error)
+        }
+    }
+}
+
+// The same of a memory, with room that its granules ask for.
+fn adopt_into<C: Clock>(rt: &C, room: ArenaRoom, device: SimPmem) -> (Arena<SimPmem>, Option<u64>) {
     let begun = clock(rt);
     let arena = Arena::adopt(room, device);
     let ended = clock(rt);
-    Ok((arena, each(begun, ended, 1)))
+    (arena, each(begun, ended, 1))
 }

@@ -32,7 +32,9 @@ struct ByHand {
 /// Puts that replace each of 2,000 keys in turn, beside the same by four calls of an arena that has the same words.
 pub(crate) fn time_puts<C: Clock>(rt: &C, alloc: Global, rounds: u32) -> Result<Best> {
     let mut arena = arena_with(alloc, KEYS)?;
-    time_puts_beside(rt, alloc, &mut arena, rounds)
+    let timed = time_puts_beside(rt, alloc, &mut arena, rounds);
+    drop(arena);
+    timed
 }
 
 // The same beside an arena with the keys.
@@ -59,7 +61,9 @@ fn time_puts_over<C: Clock>(
     rounds: u32,
 ) -> Result<Best> {
     let mut dict = dict_with(alloc, KEYS)?;
-    put_laps(rt, &mut dict, arena, hand, rounds)
+    let timed = put_laps(rt, &mut dict, arena, hand, rounds);
+    drop(dict);
+    timed
 }
 
 // Both in turn, so many times. Both arenas have the same blocks in the end.

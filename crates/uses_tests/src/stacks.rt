@@ -15,22 +15,32 @@ const HIGH: Record = [9, 10, 11, 12, 13, 14, 15, u64::MAX];
 // An arena of 16 to 1024 granules in which no root names a block.
 fn new_arena(alloc: Global, granules: u32) -> Result<Arena<SimPmem>, OutOfMemory> {
     let granules = granules.clamp(16, 1024);
-    let room = ArenaRoom::new(alloc, granules)?;
     let device = SimPmem::zeroed(alloc, 256 * granules, 2048)?;
+    let room = ArenaRoom::new(alloc, granules)?;
     Ok(Arena::format(room, device, 0, 1))
 }
 
 // An arena of version 2 of 25 granules, in which no root names a block.
 #[tactic(auto, using(arena_core::proofs::Readiness::second_room, arena_core::proofs::Readiness::second_least, arena_core::proofs::Readiness::second_most), unfolding(pool_layout::specs::Layout::all_granules))]
 fn second_arena(alloc: Global) -> Result<Arena<SimPmem>, OutOfMemory> {
-    let room = ArenaRoom::new(alloc, 25)?;
     let device = SimPmem::zeroed(alloc, 6400, 4096)?;
+    let room = ArenaRoom::new(alloc, 25)?;
     Ok(Arena::format_v2(room, device, 0, 1))
 }
 
 fn new_stack(alloc: Global, granules: u32) -> Result<RecordStack<SimPmem>, Fail> {
-    let stack = RecordStack::over(new_arena(alloc, granules)?).ok();
-    Ok(stack.ok_or("no stack")?)
+    over(new_arena(alloc, granules)?)
+}
+
+// The stack of an arena that is one.
+fn over(arena: Arena<SimPmem>) -> Result<RecordStack<SimPmem>, Fail> {
+    match RecordStack::over(arena) {
+        Ok(stack) => Ok(stack),
+        Err(arena) => {
+            drop(arena);
+            Err(Fail::from("no stack"))
+        }
+    }
 }
 
 // Two records come to a stack without any and go again. Who has a stack in hand lets it go at each way out, which is dear to
@@ -53,7 +63,9 @@ fn come_and_go<R: Abort>(rt: &R, stack: &mut RecordStack<SimPmem>) -> Result<(),
 #[test]
 fn the_last_record_comes_first(rt: HostRuntime) -> Result<(), Fail> {
     let mut stack = new_stack(rt.alloc(), 16)?;
-    come_and_go(&rt, &mut stack)
+    let tested = come_and_go(&rt, &mut stack);
+    drop(stack);
+    tested
 }
 
 // So many records come to a stack of an arena of so many granules, and then this refusal.
@@ -76,20 +88,25 @@ fn fills<R: Abort>(
 #[test]
 fn the_heap_has_no_place(rt: HostRuntime) -> Result<(), Fail> {
     let mut stack = new_stack(rt.alloc(), 16)?;
-    fills(&rt, &mut stack, 2976, PushRefusal::NoSpace)
+    let tested = fills(&rt, &mut stack, 2976, PushRefusal::NoSpace);
+    drop(stack);
+    tested
 }
 
 #[test]
 fn every_root_has_a_record(rt: HostRuntime) -> Result<(), Fail> {
     let mut stack = new_stack(rt.alloc(), 24)?;
-    fills(&rt, &mut stack, 4095, PushRefusal::Full)
+    let tested = fills(&rt, &mut stack, 4095, PushRefusal::Full);
+    drop(stack);
+    tested
 }
 
 #[test]
 fn another_heap_is_no_stack(rt: HostRuntime) -> Result<(), Fail> {
     let mut arena = new_arena(rt.alloc(), 16)?;
-    arena.malloc_to(0, 1, 64)?;
-    assert!(rt; RecordStack::over(arena).is_err());
+    let given = arena.malloc_to(0, 1, 64);
+    let stack = over(arena);
+    assert!(rt; given.is_ok() && stack.is_err());
     Ok(())
 }
 
@@ -103,9 +120,12 @@ fn leaves_root_4096<R: Abort>(rt: &R, stack: &mut RecordStack<SimPmem>) -> Resul
 #[test]
 fn other_roots_are_left(rt: HostRuntime) -> Result<(), Fail> {
     let mut arena = second_arena(rt.alloc())?;
-    arena.malloc_to(0, 4096, 64)?;
-    let mut stack = RecordStack::over(arena).ok().ok_or("no stack")?;
-    leaves_root_4096(&rt, &mut stack)
+    let given = arena.malloc_to(0, 4096, 64);
+    let mut stack = over(arena)?;
+    let tested = leaves_root_4096(&rt, &mut stack);
+    drop(stack);
+    assert!(rt; given.is_ok());
+    tested
 }
 
 // The stack that is reopened from the image behind the first `k` events of a device, as a generator from `seed` picks.
@@ -147,7 +167,9 @@ fn all_stop<R: Abort>(
     for k in 0..=events {
         for seed in 0..3 {
             let stack = reopened(alloc, device, k, seed)?;
-            stands(rt, &stack, !(shows && k == events), shows && k > 0)?;
+            let stood = stands(rt, &stack, !(shows && k == events), shows && k > 0);
+            drop(stack);
+            stood?;
         }
     }
     Ok(())
@@ -181,14 +203,21 @@ fn push_by_steps<R: Abort>(rt: &R, alloc: Global, arena: &mut Arena<SimPmem>) ->
 // The arena of a stack that has LOW alone.
 fn arena_with_low(alloc: Global) -> Result<Arena<SimPmem>, Fail> {
     let mut stack = new_stack(alloc, 16)?;
-    stack.push(&LOW)?;
-    Ok(stack.into_arena())
+    match stack.push(&LOW) {
+        Ok(()) => Ok(stack.into_arena()),
+        Err(refusal) => {
+            drop(stack);
+            Err(refusal.into())
+        }
+    }
 }
 
 #[test]
 fn a_push_is_stopped(rt: HostRuntime) -> Result<(), Fail> {
     let mut arena = arena_with_low(rt.alloc())?;
-    push_by_steps(&rt, rt.alloc(), &mut arena)
+    let tested = push_by_steps(&rt, rt.alloc(), &mut arena);
+    drop(arena);
+    tested
 }
 
 // The device of a whole push has the events of its last call.
@@ -205,5 +234,7 @@ fn push_both<R: Abort>(
 #[test]
 fn a_push_ends_with_a_move(rt: HostRuntime) -> Result<(), Fail> {
     let mut stack = new_stack(rt.alloc(), 16)?;
-    push_both(&rt, rt.alloc(), &mut stack)
+    let tested = push_both(&rt, rt.alloc(), &mut stack);
+    drop(stack);
+    tested
 }

@@ -1,8 +1,9 @@
 // Reports that were changed by hand: the judge refuses each at the line at which it is no report of its trace any more.
 use crate::judge::known::old_block_goes;
-use crate::judge::{Verdict, judge};
+use crate::judge::{finds_right, finds_wrong};
 use crate::machine::Seats;
 use std::alloc::{AllocError, Global};
+use std::process::Abort;
 use std::test::Fail;
 
 // Two threads on one arena, and one of them on another. The slab that the first call makes takes the class of 6144 bytes in the
@@ -74,17 +75,27 @@ fn changed(alloc: Global, old: &str, new: &str) -> Result<Option<String>, AllocE
 
 #[test]
 fn changed_reports_are_refused(rt: HostRuntime) -> Result<(), Fail> {
-    let verdict = judge(rt.alloc(), Seats::OfThreads, TRACE, REPORT)?;
-    assert!(rt; verdict.is_right(), "{verdict:?}");
+    let _ = finds_right(&rt, rt.alloc(), Seats::OfThreads, TRACE, REPORT)?;
     for change in CHANGES.lines() {
         let (line, parts) = change.split_once(": ").ok_or("no line")?;
-        let parts = parts.replace(rt.alloc(), '/', "\n")?;
-        let (old, new) = parts.split_once(" ->").ok_or("no change")?;
-        let report = changed(rt.alloc(), old, new.trim_start_matches(' '))?.ok_or("no such part")?;
-        let verdict = judge(rt.alloc(), Seats::OfThreads, TRACE, &report)?;
-        assert_eq!(rt; verdict, Verdict::WrongAt(line.parse()?), "{change}");
+        let report = changed_by(rt.alloc(), parts)?;
+        finds_wrong(
+            &rt,
+            rt.alloc(),
+            Seats::OfThreads,
+            TRACE,
+            &report,
+            line.parse()?,
+        )?;
     }
     Ok(())
+}
+
+// The report with the change that a line of the table says behind its number.
+fn changed_by(alloc: Global, parts: &str) -> Result<String, Fail> {
+    let parts = parts.replace(alloc, '/', "\n")?;
+    let (old, new) = parts.split_once(" ->").ok_or("no change")?;
+    Ok(changed(alloc, old, new.trim_start_matches(' '))?.ok_or("no such part")?)
 }
 
 // What threads do in another order is right, as is another word that was never written.
@@ -98,48 +109,64 @@ fn other_reports_are_right(rt: HostRuntime) -> Result<(), Fail> {
         ),
     ] {
         let report = changed(rt.alloc(), old, new)?.ok_or("no such part")?;
-        let verdict = judge(rt.alloc(), Seats::OfThreads, TRACE, &report)?;
-        assert!(rt; verdict.is_right(), "{verdict:?} of {new}");
+        let _ = finds_right(&rt, rt.alloc(), Seats::OfThreads, TRACE, &report)?;
     }
     Ok(())
 }
 
-// Of a report whose reader knows each block: no cut of it is right.
+// Of a report whose reader knows each block: no cut of it is right, and none with another arena behind it.
 #[test]
 fn reports_that_are_cut_are_refused(rt: HostRuntime) -> Result<(), Fail> {
     let (trace, report) = old_block_goes(rt.alloc())?;
-    let mut cut = String::new(rt.alloc());
-    let mut count = 0usize;
-    for line in report.lines() {
-        let verdict = judge(rt.alloc(), Seats::OfThreads, &trace, &cut)?;
-        count = count.saturating_add(1);
-        assert_eq!(rt; verdict, Verdict::WrongAt(count));
-        cut.push_str(line)?;
-        cut.push_str("\n")?;
+    cuts_are_refused(&rt, rt.alloc(), &trace, &report)?;
+    let longer = format!(in rt.alloc(); "{report}arena 1 calls 0\n")?;
+    let behind = report.lines().count().saturating_add(1);
+    finds_wrong(&rt, rt.alloc(), Seats::OfThreads, &trace, &longer, behind)
+}
+
+// The report is right, and each of its fronts that ends with a line is refused behind that line.
+fn cuts_are_refused<R: Abort>(
+    rt: &R,
+    alloc: Global,
+    trace: &str,
+    report: &str,
+) -> Result<(), Fail> {
+    let mut end = 0usize;
+    for (lines, line) in report.lines().enumerate() {
+        let front = report.get(..end).unwrap_or("");
+        finds_wrong(
+            rt,
+            alloc,
+            Seats::OfThreads,
+            trace,
+            front,
+            lines.saturating_add(1),
+        )?;
+        end = end.saturating_add(line.len()).saturating_add(1);
     }
-    let verdict = judge(rt.alloc(), Seats::OfThreads, &trace, &cut)?;
-    assert!(rt; verdict.is_right(), "{verdict:?}");
-    cut.push_str("arena 1 calls 0\n")?;
-    let verdict = judge(rt.alloc(), Seats::OfThreads, &trace, &cut)?;
-    assert_eq!(rt; verdict, Verdict::WrongAt(count.saturating_add(1)));
+    let _ = finds_right(rt, alloc, Seats::OfThreads, trace, report)?;
     Ok(())
 }
 
 // Thread 1 has a block of its own stack, or of the stack that thread 0 filled.
 #[test]
 fn reports_by_other_seats_are_refused(rt: HostRuntime) -> Result<(), Fail> {
+    are_by(&rt, rt.alloc(), 68096, Seats::OfThreads, Seats::OfOwners)?;
+    are_by(&rt, rt.alloc(), 67648, Seats::OfOwners, Seats::OfThreads)
+}
+
+// Where its block is at this address, a report is right by the first seats and refused by the others.
+fn are_by<R: Abort>(
+    rt: &R,
+    alloc: Global,
+    at: u32,
+    seats: Seats,
+    others: Seats,
+) -> Result<(), Fail> {
     let trace = "pool 1 16\n0 0 m 1 64\n1 0 m 2 64\n";
-    for (at, seats, others) in [
-        (68096, Seats::OfThreads, Seats::OfOwners),
-        (67648, Seats::OfOwners, Seats::OfThreads),
-    ] {
-        let report = format!(in rt.alloc();
-            "arena 0 calls 2\n0 m 1 64 placed 67584 64\n1 m 2 64 placed {at} 64\nheap 2\n1 67584 64\n2 {at} 64\n"
-        )?;
-        let verdict = judge(rt.alloc(), seats, trace, &report)?;
-        assert!(rt; verdict.is_right(), "{verdict:?} {seats:?}");
-        let verdict = judge(rt.alloc(), others, trace, &report)?;
-        assert_eq!(rt; verdict, Verdict::WrongAt(3), "{others:?}");
-    }
-    Ok(())
+    let report = format!(in alloc;
+        "arena 0 calls 2\n0 m 1 64 placed 67584 64\n1 m 2 64 placed {at} 64\nheap 2\n1 67584 64\n2 {at} 64\n"
+    )?;
+    let _ = finds_right(rt, alloc, seats, trace, &report)?;
+    finds_wrong(rt, alloc, others, trace, &report, 3)
 }

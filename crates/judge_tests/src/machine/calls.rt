@@ -54,6 +54,11 @@ fn call_of(text: &str) -> Option<Call> {
         return Some(Call::Free { root });
     }
     let second = number(words.next())?;
+    call_with(kind, root, second, words.next())
+}
+
+// The call of a kind with two numbers, or three.
+fn call_with(kind: &str, root: u64, second: u64, third: Option<&str>) -> Option<Call> {
     match kind {
         "m" => Some(Call::Malloc { root, size: second }),
         "r" => Some(Call::Read {
@@ -67,7 +72,7 @@ fn call_of(text: &str) -> Option<Call> {
         "w" => Some(Call::Write {
             root,
             index: second,
-            value: number(words.next())?,
+            value: number(third)?,
         }),
         _ => None,
     }

@@ -107,15 +107,21 @@ fn call(alloc: Global, made: Made, turn: u64, one: u64, other: u64) -> Result<St
     let index = other % 5;
     let value = one ^ other;
     let bytes = size(turn / 24, other);
-    let is_filling = turn / 12 % 2 == 0;
     match one % 16 {
         0 => format!(in alloc; "w {at} {index} {value}"),
         1 => format!(in alloc; "r {at} {index}"),
         2 if made.moves => format!(in alloc; "v {at} {second}"),
-        3..=5 => format!(in alloc; "f {at}"),
-        6..=8 => format!(in alloc; "m {at} {bytes}"),
-        _ if is_filling => format!(in alloc; "m {at} {bytes}"),
+        kind if is_malloc(kind, turn) => format!(in alloc; "m {at} {bytes}"),
         _ => format!(in alloc; "f {at}"),
+    }
+}
+
+// A call of a kind is a malloc in its turn, and not a free.
+fn is_malloc(kind: u64, turn: u64) -> bool {
+    match kind {
+        3..=5 => false,
+        6..=8 => true,
+        _ => turn / 12 % 2 == 0,
     }
 }
 
@@ -128,27 +134,44 @@ pub(crate) fn trace(alloc: Global, made: Made) -> Result<String, AllocError> {
     let mut picks = SplitMix64::seed_from_u64(made.seed);
     for turn in 0..made.turns {
         for thread in 0..THREADS {
-            let arena = picks.next_word() % arenas.max(1);
-            let words = call(alloc, made, turn, picks.next_word(), picks.next_word())?;
-            let line = format!(in alloc; "{thread} {arena} {words}\n")?;
-            text.push_str(&line)?;
+            add_call(&mut text, alloc, made, turn, thread, &mut picks)?;
         }
     }
     Ok(text)
+}
+
+// Adds the line of a call that a thread makes in a turn.
+fn add_call(
+    text: &mut String,
+    alloc: Global,
+    made: Made,
+    turn: u64,
+    thread: u64,
+    picks: &mut SplitMix64,
+) -> Result<(), AllocError> {
+    let arena = picks.next_word() % made.arenas.max(1);
+    let words = call(alloc, made, turn, picks.next_word(), picks.next_word())?;
+    let line = format!(in alloc; "{thread} {arena} {words}\n")?;
+    text.push_str(&line)
 }
 
 /// The same calls in the same order, all of thread 0.
 pub(crate) fn on_one_thread(alloc: Global, trace: &str) -> Result<String, AllocError> {
     let mut text = String::new(alloc);
     for line in trace.lines() {
-        match line.split_once(' ') {
-            Some((thread, rest)) if !thread.starts_with("pool") => {
-                text.push_str("0 ")?;
-                text.push_str(rest)?;
-            }
-            _ => text.push_str(line)?,
-        }
-        text.push_str("\n")?;
+        add_by_0(&mut text, line)?;
     }
     Ok(text)
+}
+
+// Adds a line, where it is one of a call as one of thread 0.
+fn add_by_0(text: &mut String, line: &str) -> Result<(), AllocError> {
+    match line.split_once(' ') {
+        Some((thread, rest)) if !thread.starts_with("pool") => {
+            text.push_str("0 ")?;
+            text.push_str(rest)?;
+        }
+        _ => text.push_str(line)?,
+    }
+    text.push_str("\n")
 }
