@@ -119,23 +119,43 @@ fn numbers_of(
 ) -> Result<String, AllocError> {
     let mut text = String::new(alloc);
     for name in form.variant {
-        let line = format!(in alloc; "arena {arena} {name}\n")?;
-        text.push_str(&line)?;
+        add_fact(&mut text, alloc, arena, name)?;
     }
-    let (version, granules) = (form.version, form.granules);
-    let head = format!(in alloc;
-        "arena {arena} version {version}\narena {arena} granules {granules}\n"
-    )?;
-    text.push_str(&head)?;
+    add_number(&mut text, alloc, arena, "version", form.version)?;
+    add_number(&mut text, alloc, arena, "granules", form.granules)?;
     for (name, number) in NAMES.iter().zip(shown.numbers.iter()) {
-        let line = format!(in alloc; "arena {arena} {name} {number}\n")?;
-        text.push_str(&line)?;
+        add_number(&mut text, alloc, arena, name, *number)?;
     }
     for class in shown.classes {
-        let line = format!(in alloc; "arena {arena} class {class}\n")?;
-        text.push_str(&line)?;
+        add_class(&mut text, alloc, arena, class)?;
     }
     Ok(text)
+}
+
+fn add_fact(text: &mut String, alloc: Global, arena: usize, fact: &str) -> Result<(), AllocError> {
+    let line = format!(in alloc; "arena {arena} {fact}\n")?;
+    text.push_str(&line)
+}
+
+fn add_number(
+    text: &mut String,
+    alloc: Global,
+    arena: usize,
+    name: &str,
+    number: u32,
+) -> Result<(), AllocError> {
+    let fact = format!(in alloc; "{name} {number}")?;
+    add_fact(text, alloc, arena, &fact)
+}
+
+fn add_class(
+    text: &mut String,
+    alloc: Global,
+    arena: usize,
+    class: &str,
+) -> Result<(), AllocError> {
+    let fact = format!(in alloc; "class {class}")?;
+    add_fact(text, alloc, arena, &fact)
 }
 
 // The granules of an arena.

@@ -3,8 +3,9 @@ ghost use Rattle.std.specs.Prelude.{◌≤◌};
 
 use crate::values::same;
 use heap_model::{Call, Entry};
+use pmem_lines::SimPmem;
 use serve_runs::make_calls;
-use shared_pool::OpenGate;
+use shared_pool::{ClosedArena, OpenGate};
 use single_server::empty_arena;
 use std::alloc::{AllocError, Global};
 use std::process::Abort;
@@ -21,15 +22,19 @@ fn crowd(alloc: Global, turns: u32) -> Result<String, AllocError> {
     for turn in 0..turns {
         for sender in 0..SENDERS {
             if turn < turns / (1 + sender) {
-                let line = match turn % 2 {
-                    0 => format!(in alloc; "{sender} 0 m {sender} 100\n")?,
-                    _ => format!(in alloc; "{sender} 0 f {sender}\n")?,
-                };
-                text.push_str(&line)?;
+                add_call(&mut text, alloc, turn, sender)?;
             }
         }
     }
     Ok(text)
+}
+
+fn add_call(text: &mut String, alloc: Global, turn: u32, sender: u32) -> Result<(), AllocError> {
+    let line = match turn % 2 {
+        0 => format!(in alloc; "{sender} 0 m {sender} 100\n")?,
+        _ => format!(in alloc; "{sender} 0 f {sender}\n")?,
+    };
+    text.push_str(&line)
 }
 
 // The calls of one sender, as the trace has them.
@@ -69,11 +74,23 @@ fn all_are_served<R: Abort + Threads + Wait + Sync>(
     }
     let arenas = vec![in alloc; empty_arena(alloc)?]?;
     let closed = make_calls(rt, alloc, &trace, arenas, room, &OpenGate)?;
-    for arena in closed.iter() {
-        same(rt, &arena.journal.len(), &trace.calls.len());
+    let tested = have_all(rt, alloc, &closed, &trace.calls);
+    drop(closed);
+    tested
+}
+
+// Each journal has as many entries as there are calls, and those of each sender in its order.
+fn have_all<R: Abort>(
+    rt: &R,
+    alloc: Global,
+    closed: &[ClosedArena<SimPmem>],
+    calls: &[TraceCall],
+) -> Result<(), Fail> {
+    for arena in closed {
+        same(rt, &arena.journal.len(), &calls.len());
         for sender in 0..SENDERS {
             let own = served(alloc, &arena.journal, sender)?;
-            assert_eq!(rt; own, sent(alloc, &trace.calls, sender)?, "sender {sender}");
+            assert_eq!(rt; own, sent(alloc, calls, sender)?, "sender {sender}");
         }
     }
     Ok(())

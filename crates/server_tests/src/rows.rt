@@ -4,11 +4,12 @@ ghost use Rattle.shared_pool.specs.Passes.{part_at};
 ghost use Rattle.arena_server.specs.Servers.{IsSenderOf, IsOwnerOf};
 
 use crate::values::same;
-use arena_server::{Owner, Request, Sender, Served, Server};
+use arena_server::{ClosedDesk, Owner, Request, Sender, Served, Server};
 use heap_model::{Call, Reply};
 use pmem_lines::{OutOfMemory, SimPmem};
 use single_server::{Single, close_one, empty_arena, open_one, serve};
 use std::alloc::Global;
+use std::process::Abort;
 use std::sync::Wait;
 
 const MALLOC: Call = Call::Malloc { root: 5, size: 100 };
@@ -44,19 +45,27 @@ fn served_skipped_and_left(rt: HostRuntime) -> Result<(), OutOfMemory> {
     let asked = ask_three(&rt, alloc, &server, &mut sender, &mut owner);
     let skipped = owner.has_skipped();
     let desk = close_one(&rt, alloc, server, sender, owner)?;
-    let (served, given_out) = asked?;
-    same(&rt, &served.request, &of_sender_0(MALLOC));
-    same(&rt, &served.receipt.place, &0);
-    same(&rt, &served.receipt.entry.reply, &PLACED);
-    same(&rt, &given_out, &of_sender_0(FREE));
+    let tested = is_left(&rt, &desk, asked);
+    drop(desk);
     assert!(&rt; skipped);
-    same(
-        &rt,
-        &desk.journal.as_slice(),
-        &[served.receipt.entry].as_slice(),
-    );
-    same(&rt, &desk.left.as_slice(), &[of_sender_0(READ)].as_slice());
-    assert!(&rt; desk.arena.block(5).is_some());
+    tested
+}
+
+// The first call is the journal's one entry, and the last one is what the queue had.
+fn is_left<R: Abort>(
+    rt: &R,
+    desk: &ClosedDesk<SimPmem>,
+    asked: Result<(Served, Request), OutOfMemory>,
+) -> Result<(), OutOfMemory> {
+    let (served, given_out) = asked?;
+    same(rt, &served.request, &of_sender_0(MALLOC));
+    same(rt, &served.receipt.place, &0);
+    same(rt, &served.receipt.entry.reply, &PLACED);
+    same(rt, &given_out, &of_sender_0(FREE));
+    let entries = [served.receipt.entry];
+    same(rt, &desk.journal.as_slice(), &entries.as_slice());
+    same(rt, &desk.left.as_slice(), &[of_sender_0(READ)].as_slice());
+    assert!(rt; desk.arena.block(5).is_some());
     Ok(())
 }
 
@@ -93,16 +102,22 @@ fn two_threads_at_a_narrow_queue(rt: HostRuntime) -> Result<(), OutOfMemory> {
     };
     let calls = [MALLOC, write, READ, FREE, MALLOC];
     let desk = serve(&rt, alloc, empty_arena(alloc)?, &calls, 1)?;
-    same(&rt, &desk.journal.len(), &5);
-    assert!(&rt; desk.left.is_empty());
+    has_five_entries(&rt, &desk);
+    drop(desk);
+    Ok(())
+}
+
+// The first call got the block, and the third read what the second wrote.
+fn has_five_entries<R: Abort>(rt: &R, desk: &ClosedDesk<SimPmem>) {
+    same(rt, &desk.journal.len(), &5);
+    assert!(rt; desk.left.is_empty());
     for (i, entry) in desk.journal.iter().enumerate() {
-        same(&rt, &entry.seat, &0);
+        same(rt, &entry.seat, &0);
         if i == 0 {
-            same(&rt, &entry.reply, &PLACED);
+            same(rt, &entry.reply, &PLACED);
         }
         if i == 2 {
-            same(&rt, &entry.reply, &Reply::Value { word: 77 });
+            same(rt, &entry.reply, &Reply::Value { word: 77 });
         }
     }
-    Ok(())
 }
