@@ -1,6 +1,6 @@
 // What `gc-crash` has to say of its input, and the device that it leaves.
 ghost use Rattle.std.specs.Prelude.{◌≡◌, ◌<◌, ◌≤◌, IfOk, OnOk, OnErr};
-ghost use Rattle.pmem_lines.specs.Pmem.{risen};
+ghost use Rattle.pmem_lines.specs.Pmem.{words_of, risen};
 ghost use Rattle.gc_check.specs.Image.{IsGcSoundImage};
 ghost use Rattle.gc_recover.specs.Recovered.{IsGcRecoveredDevice};
 ghost use Rattle.gc_runs.specs.Told.{gc_blocks_in};
@@ -12,10 +12,11 @@ use crate::answers::still_trace_of;
 use crate::crashing::{lacks_arena, lacks_event};
 use crate::shelf::Shelf;
 use gc_crashes::gc_crash;
+use gc_heap::GcArena;
 use gc_recover::gc_recover;
 use gc_runs::gc_blocks_of;
 use gc_search::GcFault;
-use pmem_lines::OutOfMemory;
+use pmem_lines::{OutOfMemory, Pmem};
 use pool_layout::layout_of;
 use program_io::Answer;
 use std::alloc::Global;
@@ -74,9 +75,27 @@ fn recovered_report<H: Shelf>(
         Err((GcFault::Memory(fault), _)) => return Err(fault),
         Err((GcFault::Defect(_), _)) => unreachable!(),
     };
-    let blocks = gc_blocks_of(alloc, &recovered)?;
+    let text = match heap_text(alloc, crashed, &recovered) {
+        Ok(text) => text,
+        Err(fault) => {
+            drop(recovered);
+            return Err(fault);
+        }
+    };
+    shelf.put(arena, recovered.into_pmem());
+    Ok(text)
+}
+
+// The report of the heap of an arena that was recovered from what a crash left.
+fn heap_text<P: Pmem>(
+    alloc: Global,
+    crashed: &Crashed,
+    arena: &GcArena<P>,
+) -> Result<Vec<u8>, OutOfMemory>
+    ensures { IfOk result (λ text. text.items ≡ crash_text crashed.now.call crashed.now.side (gc_blocks_in (words_of arena.now.device))) }
+{
+    let blocks = gc_blocks_of(alloc, arena)?;
     let mut text = Vec::new(alloc);
     write_crash(&mut text, crashed.call, crashed.side, &blocks)?;
-    shelf.put(arena, recovered.into_pmem());
     Ok(text)
 }

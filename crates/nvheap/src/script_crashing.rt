@@ -65,7 +65,13 @@ fn recovered_map<H: Shelf>(
     let image: &[u64] = &crashed.image;
     let device = shelf.take_image(alloc, image, room_of(image))?;
     let dict = reopen(alloc, device)?;
-    let text = map_text(alloc, crashed, script, &dict)?;
+    let text = match map_text(alloc, crashed, script, &dict) {
+        Ok(text) => text,
+        Err(fault) => {
+            drop(dict);
+            return Err(fault);
+        }
+    };
     shelf.put(0, dict.into_arena().into_pmem());
     Ok(text)
 }

@@ -63,18 +63,16 @@ fn adopt<C: Clock>(
     arena: Arena<SimPmem>,
 ) -> Result<(Arena<SimPmem>, Option<u64>), OutOfMemory> {
     match ArenaRoom::new(alloc, arena.granules()) {
-        Ok(room) => Ok(adopt_into(rt, room, arena.into_pmem())),
+        Ok(room) => {
+            let device = arena.into_pmem();
+            let begun = clock(rt);
+            let arena = Arena::adopt(room, device);
+            let ended = clock(rt);
+            Ok((arena, each(begun, ended, 1)))
+        }
         Err(error) => {
             drop(arena);
             Err(error)
         }
     }
-}
-
-// The same of a memory, with room that its granules ask for.
-fn adopt_into<C: Clock>(rt: &C, room: ArenaRoom, device: SimPmem) -> (Arena<SimPmem>, Option<u64>) {
-    let begun = clock(rt);
-    let arena = Arena::adopt(room, device);
-    let ended = clock(rt);
-    (arena, each(begun, ended, 1))
 }

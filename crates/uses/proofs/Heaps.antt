@@ -2,19 +2,21 @@
 use Rattle.std.proofs.Common.{◌≡◌, ℕ, ◌-◌, ◌*◌, ◌<◌, ◌≤◌, List, ap, arith}
 use Rattle.size_classes.specs.Classes.{sizes, class_size, IsClassOf}
 use Rattle.size_classes.proofs.Least.{low_class}
+use Rattle.pool_layout.specs.declared.layout.Layout.{Layout}
 use Rattle.pool_layout.specs.Layout.{layout_of, IsLayout}
 use Rattle.pool_layout.specs.Header.{version_in}
-use Rattle.pool_layout.proofs.Layouts.{layout_rules}
+use Rattle.pool_layout.proofs.Layouts.{layout_rules, first_row}
 use Rattle.heap_model.proofs.Sites.{class_once}
 use Rattle.heap_check.specs.Image.{bounds_of, IsExactImage}
 use Rattle.uses.specs.Stack.{stage}
 
 -- the stage is a root of every version
 pub stage_rooted : (words : List ℕ) → stage < (bounds_of words).roots
-stage_rooted words = omega (arith, (layout_rules (version_in words)).least_roots)
+stage_rooted words =
+    let first : (layout_of 1).roots ≡ 4096 = ap (λ (r : Layout). r.roots) first_row in
+    omega (arith, first, (layout_rules (version_in words)).least_roots)
 
 -- the heap of an exact image has 64 bytes
-
 pub record_fits : (words : List ℕ) → IsExactImage words → 64 ≤ ((bounds_of words).granules - (bounds_of words).first) * 16384
 record_fits words image =
     let rules : IsLayout (layout_of (version_in words)) = layout_rules (version_in words) in

@@ -30,9 +30,7 @@ returns-clause-text g c =
     let begun : g.H.Device.Pmem.state c.in_ok-device.device ≡ fresh crashed.image.items c.args.room = c.in_ok-device.ensures.device ∙ ap (λ (ws : List ℕ). fresh ws c.args.room) c.deref-image.ensures.value in
     let keeps = (gc_recovered_device crashed.image.items c.args.room device (subst (λ (s : PmemState). IsGcRecovered s device) begun c.in-Ok.ensures.recovered)).keeps in
     let same = gc_blocks_in-same crashed.image.items (words_of device) keeps.bounds keeps.heap in
-    c.in_ok-write_crash.ensures.text
-    ∙ ap (λ (front : List ℕ). front ++ crash_text crashed.call crashed.side c.deref.result.now) c.new-text.ensures.items
-    ∙ ap (λ (blocks : List Block). crash_text crashed.call crashed.side blocks) (c.deref.ensures.value ∙ c.in_ok-blocks.ensures ∙ same)
+    c.in-Ok-heap_text.ensures ∙ ap (λ (blocks : List Block). crash_text crashed.call crashed.side blocks) same
 
 pub returns-clause-put : goal.returns-clause-put
 returns-clause-put g c =

@@ -24,7 +24,7 @@ returns-in-Err-Newer c =
     (λ image are. record {
       words = c.args.words.now;
       image = image_of image c.args.words.now c.args.bytes c.in-Ok.header are c.in-Ok.ensures.whole c.in-Ok.ensures.pool;
-      is = why.1;
+      is = sym why.1;
       later = why.0;
     })
     c.fault_line-in-Err-Newer.ensures

@@ -24,7 +24,7 @@ reopen-requires-clause-steady g c = subst HasSteadyDict (sym (ap (λ (s : PmemSt
 pub returns-clause-text : goal.returns-clause-text
 returns-clause-text g c =
     let dict = c.in_ok-dict.dict in
-    let told = c.in_ok-text.ensures in
+    let told = c.in-Ok.ensures in
     record {
       pairs = dict.pairs;
       side = told.side;
