@@ -95,6 +95,21 @@ fn pair_of(found: Option<Keyed>) -> Option<(u64, u32)> {
 // By hand: the keys stand as 0, 3, 5, 8 with the roots 3, 1, 0, 2.
 const KEYS: [u64; 4] = [5, 3, 8, 0];
 
+// A key with its root, if it has one, and the first key that is not below it, with its root.
+type Found = (u64, Option<u32>, Option<(u64, u32)>);
+
+const FOUND: [Found; 9] = [
+    (0, Some(3), Some((0, 3))),
+    (1, None, Some((3, 1))),
+    (3, Some(1), Some((3, 1))),
+    (4, None, Some((5, 0))),
+    (5, Some(0), Some((5, 0))),
+    (6, None, Some((8, 2))),
+    (8, Some(2), Some((8, 2))),
+    (9, None, None),
+    (u64::MAX, None, None),
+];
+
 #[test]
 fn searches_by_hand(rt: HostRuntime) -> Result<(), Fail> {
     let map = map_of(rt.alloc(), &KEYS)?;
@@ -104,19 +119,9 @@ fn searches_by_hand(rt: HostRuntime) -> Result<(), Fail> {
 
 fn are_found_by_hand<R: Abort>(rt: &R, map: &KeyMap) {
     same(rt, &map.len(), &4);
-    for (key, root, next) in [
-        (0, Some(3), Some((0, 3))),
-        (1, None, Some((3, 1))),
-        (3, Some(1), Some((3, 1))),
-        (4, None, Some((5, 0))),
-        (5, Some(0), Some((5, 0))),
-        (6, None, Some((8, 2))),
-        (8, Some(2), Some((8, 2))),
-        (9, None, None),
-        (u64::MAX, None, None),
-    ] {
-        assert_eq!(rt; map.get(key), root, "the root of {key}");
-        assert_eq!(rt; pair_of(map.next_from(key)), next, "the next from {key}");
+    for (key, root, next) in FOUND {
+        same(rt, &(key, map.get(key)), &(key, root));
+        same(rt, &(key, pair_of(map.next_from(key))), &(key, next));
     }
 }
 
