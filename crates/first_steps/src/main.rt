@@ -21,10 +21,17 @@ const STAGE: u32 = 4095;
 
 fn main(rt: HostRuntime) -> Result<()> {
     let mut arena = new_arena(rt.alloc())?;
-    write_notes(&rt, &mut arena)?;
-    let _ = publish(&mut arena, RECORD, &[1, 2, 3, 4, 5, 6])?;
-    cut_power(&rt, rt.alloc(), arena.pmem(), 3)?;
-    cut_power(&rt, rt.alloc(), arena.pmem(), 6)
+    let done = use_arena(&rt, rt.alloc(), &mut arena);
+    drop(arena);
+    done
+}
+
+// All that is done with the arena. It is lent, and goes in one place: each way out that lets an arena go is dear to prove.
+fn use_arena(rt: &impl Print, alloc: Global, arena: &mut Arena<SimPmem>) -> Result<()> {
+    write_notes(rt, arena)?;
+    let _ = publish(arena, RECORD, &[1, 2, 3, 4, 5, 6])?;
+    cut_power(rt, alloc, arena.pmem(), 3)?;
+    cut_power(rt, alloc, arena.pmem(), 6)
 }
 
 // An arena of 16 granules, which are 4096 lines. No call has more than 2048 events.
@@ -55,7 +62,10 @@ fn cut_power(rt: &impl Print, alloc: Global, device: &SimPmem, event: u32) -> Re
     let mut picks = SplitMix64::seed_from_u64(0);
     let image = device.image(alloc, event.min(device.event_count()), &mut picks)?;
     println!(rt; "power cut after event {event} of {}", device.event_count())?;
-    go_on(rt, &mut restart(alloc, &image)?)
+    let mut arena = restart(alloc, &image)?;
+    let done = go_on(rt, &mut arena);
+    drop(arena);
+    done
 }
 
 // An image is whole lines, 1 to 1,048,576 of them. What else may be wrong with one, `recover` finds. No recovery, of an arena of
