@@ -1,32 +1,14 @@
 -- The search for the slab that takes a class: the candidates come in order, so the first one that is fit is the best; and what
 -- was found unfit stays known.
-use Rattle.std.proofs.Common.{◌≡◌, ◌≢◌, ◌==◌, ◌&&◌, if◌then◌else◌, ℕ, ◌+◌, ◌-◌, ◌*◌, ◌<◌, ◌≤◌, Bool, true, false, refl, ap, slice_index, slice_index_or, List, length, Option, Some, None, MatchOption, IfSome, sym, ◌∙◌, subst, arith, inl, inr, ⊎_elim}
+use Rattle.std.proofs.Common.{◌≡◌, ◌==◌, ◌&&◌, if◌then◌else◌, ℕ, ◌*◌, ◌<◌, ◌≤◌, Bool, true, false, refl, ap, List, Some, None, sym, ◌∙◌, subst, arith, inl, inr, ⊎_elim}
 use Rattle.arena_core.proofs.Common.{cases_lt, cond-true, class_capacity, normal_kind, Tables, tables_of, IsBestSlab, HasNoFitSlab, live_below, Lives, heap, bounds_of, AreCountsOf, is_unfit, HasNoUnused, AreLivesOf, tables_view, IsMorphable}
 use Rattle.heap_model.specs.Choice.{View, IsFit, slab_view}
 use Rattle.slab_index.specs.declared.candidates.Candidate.{Candidate}
-use Rattle.slab_lives.specs.Lives.{normal_at, IsSparse, HasNoSparse, IsFirstSparse}
-use Rattle.std.proofs.lemmas.Bool.{cases_eq, false_from_ne_true, false≢true, and_from, and_parts, eq-eqb, eqb-true}
-use Rattle.class_steps.specs.Classes.{IsReadyFor, IsFitIn}
+use Rattle.slab_index.specs.Lives.{IsSparse, HasNoSparse, IsFirstSparse}
+use Rattle.slab_index.proofs.Noting.{same_normal}
+use Rattle.std.proofs.lemmas.Bool.{false_from_ne_true, and_parts, eqb-true}
+use Rattle.transition_steps.specs.Classes.{IsReadyFor, IsFitIn}
 use Rattle.heap_check.proofs.NormalSlabs.{normal_of-parts}
-
--- how far a candidate is from the last place that one may have
-abbrev pub left_behind : Option Candidate → ℕ
-left_behind None = 0
-left_behind (Some found) = 300000 - (4096 * found.live + found.start)
-
--- the same row has the same slabs
-same_normal : (lives next : Lives) → next.normal ≡ lives.normal → (s : ℕ) → normal_at lives s ≡ normal_at next s
-unfolding normal_at
-same_normal lives next normal s = ap (λ (row : List (Option ℕ)). slice_index_or row s None) (sym normal)
-
--- either way
-always : (b : Bool) → (if b then true else true) ≡ true
-always true = refl
-always false = refl
-
--- what is not said to be is not
-unsaid : (b : Bool) → ¬ (b ≡ true) → b ≡ false
-unsaid b differs = false_from_ne_true b differs
 
 module _ (words : List ℕ) (lives : Lives) (class : ℕ) (are : AreLivesOf lives words) where
   abbrev t : Tables
@@ -41,7 +23,7 @@ module _ (words : List ℕ) (lives : Lives) (class : ℕ) (are : AreLivesOf live
 
   -- a slab that is fit was not found unfit
   sought : (s : ℕ) → IsFit (slab_view v) class s → is_unfit lives.unfit class s ≡ false
-  sought s fit = unsaid (is_unfit lives.unfit class s) (λ noted. (are.unfit class s noted).none fit.number fit.block.within (record { each = λ range holds. fit.block.unused.each range holds }))
+  sought s fit = false_from_ne_true (is_unfit lives.unfit class s) (λ noted. (are.unfit class s noted).none fit.number fit.block.within (record { each = λ range holds. fit.block.unused.each range holds }))
 
   -- so it is a candidate
   sparse_of_fit : (s : ℕ) → IsFit (slab_view v) class s → IsSparse lives class s (live_below (heap t) s (bounds_of words).roots)
@@ -102,34 +84,3 @@ module _ (words : List ℕ) (lives : Lives) (class : ℕ) (are : AreLivesOf live
       by : (c s : ℕ) (b : Bool) → (s == found.start && c == class) ≡ b → is_unfit next.unfit c s ≡ true → HasNoUnused words s c
       by c s true is known = let parts = and_parts (s == found.start) (c == class) is in subst (λ d. HasNoUnused words s d) (sym (eqb-true c class parts.1)) (subst (λ d. HasNoUnused words d class) (sym (eqb-true s found.start parts.0)) here)
       by c s false is known = are.unfit c s (sym (noted c s ∙ ap (λ b. if b then true else is_unfit lives.unfit c s) is) ∙ known)
-
--- a candidate that comes once one was noted is nearer to the end
-pub smaller : (lives next : Lives) (class : ℕ) (found : Candidate) (later : Option Candidate) → IsFirstSparse lives class found → length lives.counts ≤ 4096 → found.start < length lives.counts → next.counts ≡ lives.counts → next.normal ≡ lives.normal →
-    ((c s : ℕ) → is_unfit next.unfit c s ≡ (if s == found.start && c == class then true else is_unfit lives.unfit c s)) → MatchOption later (HasNoSparse next class) (IsFirstSparse next class) → IfSome later (λ more. more.start < length next.counts) → left_behind later < left_behind (Some found)
-smaller lives next class found None first size inside counts normal noted none within = omega (arith, first.is.few, inside, size)
-smaller lives next class found (Some later) first size inside counts normal noted second within =
-    let is = second.is in
-    let known : (s : ℕ) → is_unfit lives.unfit class s ≡ true → is_unfit next.unfit class s ≡ true = λ s was. noted class s ∙ ap (λ b. if s == found.start && class == class then true else b) was ∙ always (s == found.start && class == class) in
-    let before : IsSparse lives class later.start later.live = record {
-      own = is.own;
-      slab = same_normal lives next normal later.start ∙ is.slab;
-      count = is.count ∙ ap (λ (n : List ℕ). slice_index n later.start) counts;
-      differs = is.differs;
-      few = is.few;
-      sparse = is.sparse;
-      sought = unsaid (is_unfit lives.unfit class later.start) (λ was. false≢true (sym is.sought ∙ known later.start was));
-    } in
-    let differ : later.start ≢ found.start = λ same. false≢true (sym is.sought ∙ noted class later.start ∙ cond-true (later.start == found.start && class == class) true (is_unfit lives.unfit class later.start) (and_from (later.start == found.start) (class == class) (eq-eqb later.start found.start same) (eq-eqb class class refl))) in
-    let behind = first.first later.start later.live before in
-    let few = first.is.few in
-    let low : later.start < 4096 = omega (arith, within, size, ap (λ (n : List ℕ). length n) counts) in
-    ⊎_elim
-    (λ (less : later.live < found.live). absurd (behind (inl less)))
-    (λ (most : found.live ≤ later.live). ⊎_elim
-    (λ (same : later.live ≡ found.live). ⊎_elim
-    (λ (lower : later.start < found.start). absurd (behind (inr (same, lower))))
-    (λ (upper : found.start ≤ later.start). omega (arith, same, upper, differ, low, few, is.few))
-    (cases_lt later.start found.start))
-    (λ (more : later.live ≢ found.live). omega (arith, more, most, low, few, is.few, inside, size))
-    (cases_eq later.live found.live))
-    (cases_lt later.live found.live)

@@ -9,7 +9,7 @@ use Rattle.arena_core.proofs.Arenas.{index_as, book_same}
 use Rattle.slab_index.specs.SlabSet.{IsSlab}
 use Rattle.heap_check.proofs.Loose.{IsExactBut-exact}
 use Rattle.arena_core.proofs.Readiness.{ready_after, room_of}
-use Rattle.class_steps.specs.Classes.{LeavesClosed, IsOfClass}
+use Rattle.transition_steps.specs.Classes.{LeavesClosed, IsOfClass}
 use Rattle.arena_core.proofs.LiveSlabs.{normal_header, lives_put}
 use Rattle.arena_core.proofs.SmallCalls.{of_each, blocks_kept}
 use Rattle.arena_core.proofs.SlabChanges.{apart_from}

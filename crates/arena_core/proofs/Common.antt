@@ -42,7 +42,7 @@ pub use Rattle.heap_model.specs.Placement.{IsReturned, Stacks, without_left}
 pub use Rattle.extent_index.specs.FreeSet.{FreeSet, IsFree}
 pub use Rattle.slab_index.specs.SlabSet.{class_in}
 pub use Rattle.slab_index.specs.declared.block.SlabBlock.{SlabBlock}
-pub use Rattle.slab_lives.specs.Lives.{Lives, normal_at}
+pub use Rattle.slab_index.specs.Lives.{Lives, normal_at}
 pub use Rattle.thread_cache.specs.Stacks.{stacks_of}
 pub use Rattle.block_supply.specs.Supply.{Supply, MayBeGiven, supply_view, TookBlock, HasNoOpen, IsInNoSlabOf, IsWith, IsClearOf, HasSlabMore, HasSlabLess, IsPutOn, HadNoOpen}
 pub use Rattle.block_supply.proofs.Takes.{none_open}

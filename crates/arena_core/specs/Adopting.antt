@@ -11,7 +11,7 @@ use Rattle.heap_model.specs.Slabs.{live_below}
 use Rattle.extent_index.specs.FreeSet.{FreeSet, IsFree}
 use Rattle.slab_index.specs.SlabSet.{class_in}
 use Rattle.slab_index.specs.Unfit.{is_unfit}
-use Rattle.slab_lives.specs.Lives.{Lives, normal_at}
+use Rattle.slab_index.specs.Lives.{Lives, normal_at}
 use Rattle.block_supply.specs.Supply.{Supply, MayBeGiven}
 use Rattle.heap_check.specs.Heap.{heap, slabs, IsUnusedIn}
 use Rattle.heap_check.specs.Sound.{Covers}

@@ -12,7 +12,7 @@ use Rattle.pool_layout.specs.Header.{granules_in}
 use Rattle.heap_model.specs.Machine.{Range, with_key}
 use Rattle.slab_index.specs.SlabSet.{class_in}
 use Rattle.slab_index.specs.Unfit.{is_unfit}
-use Rattle.slab_lives.specs.Lives.{Lives, normal_at}
+use Rattle.slab_index.specs.Lives.{Lives, normal_at}
 use Rattle.block_supply.specs.Supply.{MayBeGiven}
 use Rattle.attach_steps.specs.declared.block.SmallBlock.{SmallBlock}
 use Rattle.attach_steps.specs.Steps.{IsAttachable}

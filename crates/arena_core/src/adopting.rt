@@ -10,7 +10,7 @@ ghost use Rattle.block_supply.specs.Supply.{IsClearOf};
 ghost use Rattle.heap_check.specs.Image.{bounds_of, IsExactImage};
 ghost use Rattle.log_steps.specs.Log.{IsBookOf};
 ghost use Rattle.slab_index.specs.Unfit.{is_unfit};
-ghost use Rattle.slab_lives.specs.Lives.{normal_at};
+ghost use Rattle.slab_index.specs.Lives.{normal_at};
 ghost use Rattle.arena_core.specs.Arena.{IsIndexOf, IsSlabsOf, AreLivesOf};
 ghost use Rattle.arena_core.specs.Adopting.{IsReadBelow, IsNextRead, IsWithSlabOf, HasCounted, HasNoted};
 
@@ -21,7 +21,7 @@ use extent_index::ExtentIndex;
 use pmem_lines::Pmem;
 use pool_layout::{GRANULE_BYTES, SLAB_GRANULES, granule_at};
 use slab_header::class_at;
-use slab_lives::SlabLives;
+use slab_index::SlabLives;
 use slab_morph::{is_normal, used_blocks};
 
 // The granule from which on all of an index is free that nothing was taken from.

@@ -285,10 +285,8 @@ impl<P: Pmem> Arena<P> {
         ensures ready { IsReady self.device }
         ensures exact { IsExactImage (words_of self.device) }
     {
-        let Arena {
-            device,
-            volatile: _,
-        } = self;
+        let Arena { device, volatile } = self;
+        drop(volatile);
         device
     }
 

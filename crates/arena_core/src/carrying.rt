@@ -14,7 +14,7 @@ ghost use Rattle.heap_check.specs.State.{IsEitherHeap};
 ghost use Rattle.size_classes.specs.Classes.{class_capacity};
 ghost use Rattle.thread_cache.specs.Stacks.{stacks_of};
 ghost use Rattle.block_supply.specs.Supply.{Supply, HasSlabMore, HasSlabLess, TookBlock, IsPutOn};
-ghost use Rattle.class_steps.specs.Classes.{LeavesClosed, IsOfClass};
+ghost use Rattle.transition_steps.specs.Classes.{LeavesClosed, IsOfClass};
 ghost use Rattle.log_steps.specs.Log.{IsBookOf};
 ghost use Rattle.extent_steps.specs.Slabs.{open_events, IsSlabCreated};
 ghost use Rattle.attach_steps.specs.Steps.{attach_events, detach_events, detach_old_events, IsAttachable, IsDetachable, IsOldDetachable, IsAttached};
@@ -31,16 +31,15 @@ use crate::volatile::Volatile;
 use attach_steps::{OldBlock, SmallBlock, attach, detach, detach_old, put_root};
 use block_supply::{BlockSupply, SlabAt, SlabBlock};
 use book_log::LogEntry;
-use class_steps::take_class;
 use extent_steps::{create_slab, drop_extent, drop_slab};
 use log_steps::log_entry;
 use pmem_lines::Pmem;
 use pool_layout::{SLAB_GRANULES, blocks_at, granule_at};
 use size_classes::size_of_class;
 use slab_header::class_at;
-use slab_lives::SlabLives;
+use slab_index::SlabLives;
 use slab_morph::{covered_by, is_done, is_unused, used_blocks};
-use transition_steps::end_transition;
+use transition_steps::{end_transition, take_class};
 
 impl Volatile {
     /// Gives a root of a seat the block at the place that was planned for it.

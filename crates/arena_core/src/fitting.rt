@@ -8,9 +8,9 @@ ghost use Rattle.arena_core.specs.Arena.{AreLivesOf};
 ghost use Rattle.heap_check.specs.Views.{tables_view};
 ghost use Rattle.arena_core.specs.Plan.{IsMorphable};
 
-use class_steps::is_ready;
 use pmem_lines::Pmem;
-use slab_lives::SlabLives;
+use slab_index::SlabLives;
+use transition_steps::is_ready;
 
 /// Of the slabs that are fit for a class, below 36, the one with the fewest live blocks, the lowest among equals. `None`
 /// exactly where none is. The candidates are looked at in this order, so a slab is read only where all before it are too

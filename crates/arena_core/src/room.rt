@@ -6,7 +6,7 @@ use block_supply::BlockSupply;
 use book_log::BookLog;
 use extent_index::ExtentIndex;
 use pmem_lines::OutOfMemory;
-use slab_lives::SlabLives;
+use slab_index::SlabLives;
 use std::alloc::Global;
 use std::marker::Model;
 
@@ -36,17 +36,39 @@ impl ArenaRoom {
         ensures { IfOk result (λ room. room ≡ granules) }
     {
         let log = BookLog::new(alloc, granules)?;
-        let free = ExtentIndex::new(alloc, granules)?;
-        let supply = BlockSupply::new(alloc, granules)?;
-        let lives = SlabLives::new(alloc, granules)?;
-        let volatile = Volatile {
-            log,
-            free,
-            supply,
-            lives,
-            line: 0,
+        let lives = match SlabLives::new(alloc, granules) {
+            Ok(lives) => lives,
+            Err(fault) => {
+                drop(log);
+                return Err(fault);
+            }
         };
-        Ok(ArenaRoom { volatile })
+        let free = match ExtentIndex::new(alloc, granules) {
+            Ok(free) => free,
+            Err(fault) => {
+                drop(log);
+                drop(lives);
+                return Err(fault);
+            }
+        };
+        match BlockSupply::new(alloc, granules) {
+            Ok(supply) => {
+                let volatile = Volatile {
+                    log,
+                    free,
+                    supply,
+                    lives,
+                    line: 0,
+                };
+                Ok(ArenaRoom { volatile })
+            }
+            Err(fault) => {
+                drop(log);
+                drop(lives);
+                drop(free);
+                Err(fault)
+            }
+        }
     }
 
     // How many granules it is for.

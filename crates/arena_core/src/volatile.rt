@@ -3,7 +3,7 @@
 use block_supply::BlockSupply;
 use book_log::BookLog;
 use extent_index::ExtentIndex;
-use slab_lives::SlabLives;
+use slab_index::SlabLives;
 
 /// What an arena keeps beside its words and makes anew from them: what its log says, the free granules, the slabs with the
 /// blocks that may be given out, available or in a stack, how many blocks live in each and which are normal, so that they may

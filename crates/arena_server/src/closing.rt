@@ -1,5 +1,5 @@
 // The end of a server: each queue is emptied, once its senders have ended.
-ghost use Rattle.std.specs.Prelude.{◌≡◌, ℕ, true, ◌≤◌, ◌<◌, ◌+◌, ◌++◌, ◌∷◌, [], List, map, length, vec_len};
+ghost use Rattle.std.specs.Prelude.{◌≡◌, ℕ, true, ◌≤◌, ◌<◌, ◌+◌, ◌++◌, ◌∷◌, [], List, map, length, vec_len, IfOk};
 ghost use Rattle.std.specs.Vec.{vec_capacity};
 ghost use Rattle.atomic_table.specs.Seated.{TableId};
 ghost use Rattle.crossbeam_queue.specs.Passes.{view, IsSamePass, IsPassOf, ruled_capacity};
@@ -14,13 +14,15 @@ ghost use Rattle.arena_server.specs.Emptied.{AllTakeThere, arenas_of, place_of, 
 ghost use Rattle.arena_server.specs.Servers.{queue_ids, AllHaveRoom};
 
 use crate::owner::Till;
+use crate::parting::rooms;
 use crate::queue::{Queue, Token, empty, end};
 use crate::request::Request;
 use crate::sender::Sender;
 use arena_core::Arena;
 use heap_model::Entry;
-use pmem_lines::Pmem;
-use shared_pool::ClosedArena;
+use pmem_lines::{OutOfMemory, Pmem};
+use shared_pool::{ClosedArena, Pass};
+use std::alloc::Global;
 use std::sync::Wait;
 
 /// An arena after its server, with the journal of the calls that it had there and the requests that were left.
@@ -29,6 +31,39 @@ pub struct ClosedDesk<P: Pmem> {
     pub journal: Vec<Entry>,
     pub left: Vec<Request>,
     pub arena: Arena<P>,
+}
+
+/// What the end of a server takes memory for: its owners in their parts, and for each arena the requests that are left, and all
+/// that is given back.
+pub(crate) struct ClosingRoom<P: Pmem> {
+    pub passes: Vec<Pass>,
+    pub tills: Vec<Till>,
+    pub lefts: Vec<Vec<Request>>,
+    pub out: Vec<ClosedDesk<P>>,
+}
+
+/// Room for so many owners, and for so many arenas with so many requests each.
+pub(crate) fn closing_room<P: Pmem>(
+    alloc: Global,
+    owners: usize,
+    arenas: usize,
+    requests: usize,
+) -> Result<ClosingRoom<P>, OutOfMemory>
+    ensures passes { IfOk result (λ r. (vec_len r.passes ≡ 0) × (owners ≤ vec_capacity r.passes)) }
+    ensures tills { IfOk result (λ r. (vec_len r.tills ≡ 0) × (owners ≤ vec_capacity r.tills)) }
+    ensures lefts { IfOk result (λ r. (length r.lefts.items ≡ arenas) × AllRoom requests (each_of r.lefts.items (λ l. (vec_len l, vec_capacity l)))) }
+    ensures out { IfOk result (λ r. (vec_len r.out ≡ 0) × (arenas ≤ vec_capacity r.out)) }
+{
+    let passes = Vec::with_capacity(alloc, owners)?;
+    let tills = Vec::with_capacity(alloc, owners)?;
+    let lefts = rooms(alloc, arenas, requests)?;
+    let out = Vec::with_capacity(alloc, arenas)?;
+    Ok(ClosingRoom {
+        passes,
+        tills,
+        lefts,
+        out,
+    })
 }
 
 // Ends each sender at the queue of its first line.

@@ -10,9 +10,9 @@ ghost use Rattle.arena_server.specs.Senders.{after_sending, AllSendTo, numbers};
 ghost use Rattle.arena_server.specs.Started.{new_senders, new_owners};
 ghost use Rattle.arena_server.specs.Servers.{AllOwnersOf, IsSenderOf, IsOwnerOf, HasServed, HasSkipped, after_holding};
 
-use crate::closing::{ClosedDesk, close_all};
+use crate::closing::{ClosedDesk, ClosingRoom, close_all, closing_room};
 use crate::owner::Owner;
-use crate::parting::{join_owners, part_owners, rooms};
+use crate::parting::{join_owners, part_owners};
 use crate::queue::{Queue, put, take};
 use crate::request::{Request, Served};
 use crate::sender::Sender;
@@ -189,18 +189,15 @@ impl<P: Pmem> Server<P> {
         ensures handed_back { IfErr result (λ r. (r.1 ≡ self) × (r.2 ≡ senders) × (r.3.items ≡ owners.items)) }
     {
         let count = self.queues.len();
-        let Ok(passes) = Vec::with_capacity(alloc, owners.len()) else {
+        let Ok(made) = closing_room(alloc, owners.len(), count, self.room as usize + 1) else {
             return Err((OutOfMemory, self, senders, owners));
         };
-        let Ok(tills) = Vec::with_capacity(alloc, owners.len()) else {
-            return Err((OutOfMemory, self, senders, owners));
-        };
-        let Ok(lefts) = rooms(alloc, count, self.room as usize + 1) else {
-            return Err((OutOfMemory, self, senders, owners));
-        };
-        let Ok(out) = Vec::with_capacity(alloc, count) else {
-            return Err((OutOfMemory, self, senders, owners));
-        };
+        let ClosingRoom {
+            passes,
+            tills,
+            lefts,
+            out,
+        } = made;
         let (owners, passes, tills) = part_owners(owners, passes, tills);
         let Server {
             pool,

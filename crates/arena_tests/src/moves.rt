@@ -115,22 +115,23 @@ fn blocks_move(rt: HostRuntime) -> Result<(), Fail> {
     tested
 }
 
+const REFUSED: [(u32, u32, MoveRefusal); 10] = [
+    (4096, 4096, MoveRefusal::NoRoot),
+    (4096, 5, MoveRefusal::NoRoot),
+    (5, 4096, MoveRefusal::NoRoot),
+    (6, 4096, MoveRefusal::NoRoot),
+    (6, 5, MoveRefusal::Empty),
+    (6, 6, MoveRefusal::Empty),
+    (4095, 9, MoveRefusal::Empty),
+    (5, 5, MoveRefusal::Occupied { at: 67584 }),
+    (5, 7, MoveRefusal::Occupied { at: 131072 }),
+    (7, 5, MoveRefusal::Occupied { at: 67584 }),
+];
+
 // Of two reasons the first is answered. A refusal has no event.
 fn all_refused<R: Abort>(rt: &R, arena: &mut Arena<SimPmem>) -> Result<(), Fail> {
-    let table = [
-        (4096, 4096, MoveRefusal::NoRoot),
-        (4096, 5, MoveRefusal::NoRoot),
-        (5, 4096, MoveRefusal::NoRoot),
-        (6, 4096, MoveRefusal::NoRoot),
-        (6, 5, MoveRefusal::Empty),
-        (6, 6, MoveRefusal::Empty),
-        (4095, 9, MoveRefusal::Empty),
-        (5, 5, MoveRefusal::Occupied { at: 67584 }),
-        (5, 7, MoveRefusal::Occupied { at: 131072 }),
-        (7, 5, MoveRefusal::Occupied { at: 67584 }),
-    ];
     assert!(rt; gave_both(arena), "no arena of two blocks");
-    for (from, to, refusal) in table {
+    for &(from, to, refusal) in &REFUSED {
         assert_eq!(rt; moved(arena, from, to), Err(refusal), "from {from} to {to}");
         same(rt, &arena.pmem().event_count(), &0);
     }

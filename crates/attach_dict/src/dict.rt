@@ -97,10 +97,11 @@ impl<P: Pmem> Dict<P> {
     {
         let Dict {
             arena,
-            index: _,
+            index,
             progress: _,
             key: _,
         } = self;
+        drop(index);
         arena
     }
 }

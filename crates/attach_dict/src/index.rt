@@ -32,18 +32,23 @@ impl DictIndex {
         requires { roots < 2 ^ 16 }
         ensures { IfOk result (λ index. IsBlank index roots) }
     {
-        let keys = KeyMap::with_room(alloc, roots)?;
-        let numbers = Numbers::with_room(alloc, roots)?;
+        let block = vec![in alloc; 0; BLOCK_WORDS]?;
         let free = RootSet::with_room(alloc, roots)?;
         let stale = RootSet::with_room(alloc, roots)?;
-        let block = vec![in alloc; 0; BLOCK_WORDS]?;
-        Ok(DictIndex {
-            keys,
-            numbers,
-            free,
-            stale,
-            block,
-        })
+        let numbers = Numbers::with_room(alloc, roots)?;
+        match KeyMap::with_room(alloc, roots) {
+            Ok(keys) => Ok(DictIndex {
+                keys,
+                numbers,
+                free,
+                stale,
+                block,
+            }),
+            Err(fault) => {
+                drop(numbers);
+                Err(fault)
+            }
+        }
     }
 
     /// A root that has a pair, and no key of the map, loses its number and is free.

@@ -1,10 +1,11 @@
 // A dictionary over an arena that has one.
 ghost use Rattle.std.specs.Prelude.{◌≡◌, ◌+◌, ◌<◌, [], length, IfOk, IfErr};
 ghost use Rattle.pmem_lines.specs.Pmem.{words_of};
-ghost use Rattle.heap_check.specs.Image.{IsExactImage};
+ghost use Rattle.heap_check.specs.Image.{bounds_of, IsExactImage};
 ghost use Rattle.arena_core.specs.Call.{IsReady};
 ghost use Rattle.attach_dict.specs.Calls.{IsOpened};
 ghost use Rattle.attach_dict.specs.Dict.{stage, IsDict};
+ghost use Rattle.attach_dict.specs.Index.{IsBlank};
 ghost use Rattle.attach_dict.specs.Heads.{AreInOrder, HasPlaces, AreTakenTo, KeepsRest};
 ghost use Rattle.attach_dict.specs.Reading.{IsScanned, IsScannedTo, IsStageTaken, IsIndexed, IsFaultOf};
 ghost use Rattle.attach_dict.specs.Roots.{IsOut};
@@ -55,16 +56,37 @@ fn read_index<P: Pmem>(alloc: Global, arena: &Arena<P>) -> Result<DictIndex, Ope
     ensures fault { IfErr result (IsFaultOf (words_of arena.now.device)) }
 {
     let roots = roots_of(arena);
-    let mut index = DictIndex::with_room(alloc, roots)?;
     let mut heads = room_for(alloc, roots)?;
-    let unfit = read_heads(&mut index, &mut heads, arena)?;
-    sort(&mut heads);
-    if let Some(root) = first_twice(&heads).or(unfit) {
+    let mut index = DictIndex::with_room(alloc, roots)?;
+    match fill_index(&mut index, &mut heads, arena) {
+        Ok(()) => Ok(index),
+        Err(fault) => {
+            drop(index);
+            Err(fault)
+        }
+    }
+}
+
+// Fills the indexes of an arena's roots, which are empty, by way of the heads of its pairs.
+fn fill_index<P: Pmem>(
+    index: &mut DictIndex,
+    heads: &mut Vec<Head>,
+    arena: &Arena<P>,
+) -> Result<(), OpenFault>
+    requires exact { IsExactImage (words_of arena.now.device) }
+    requires blank { IsBlank index.old (bounds_of (words_of arena.now.device)).roots }
+    requires none { heads.old.items ≡ [] }
+    ensures indexed { IfOk result (λ _. IsIndexed (words_of arena.now.device) index.new) }
+    ensures fault { IfErr result (IsFaultOf (words_of arena.now.device)) }
+{
+    let unfit = read_heads(index, heads, arena)?;
+    sort(heads);
+    if let Some(root) = first_twice(heads).or(unfit) {
         return Err(OpenFault::NotDict { root });
     }
-    take_heads(&mut index, &heads);
-    take_stage(&mut index, arena);
-    Ok(index)
+    take_heads(index, heads);
+    take_stage(index, arena);
+    Ok(())
 }
 
 // An empty row with room for the heads of so many roots.

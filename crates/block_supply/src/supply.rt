@@ -54,14 +54,19 @@ impl BlockSupply {
         ensures classes { IfOk result (λ supply. (s : ℕ) → class_in supply.slabs s ≡ None) }
         ensures stacks { IfOk result (λ supply. stacks_of supply.stacks ≡ no_stacks) }
     {
-        let slabs = SlabIndex::new(alloc, granules)?;
         let notes = vec![in alloc; 0; granules as usize]?;
-        let caches = ThreadCaches::new(alloc)?;
-        Ok(BlockSupply {
-            slabs,
-            notes,
-            caches,
-        })
+        let slabs = SlabIndex::new(alloc, granules)?;
+        match ThreadCaches::new(alloc) {
+            Ok(caches) => Ok(BlockSupply {
+                slabs,
+                notes,
+                caches,
+            }),
+            Err(fault) => {
+                drop(slabs);
+                Err(fault)
+            }
+        }
     }
 
     /// The class of the slab that begins at a granule. `None` exactly where none does, and so past the arena's end.

@@ -1,5 +1,5 @@
 // Defects of an arena of version 2 with one block, one by one: at the places of that version, and at the ends of its ranges.
-use crate::answers::{answer, answer_is, bad_slab, bad_wal, counts, shared};
+use crate::answers::{answer, answer_is, counts};
 use crate::images::{Put, SECOND_VERSION, blank, put};
 use crate::values::same;
 use pool_layout::Defect;
@@ -59,24 +59,37 @@ fn headers(rt: HostRuntime) -> Result<(), Fail> {
     Ok(())
 }
 
-// An entry of chunk 0 is bad.
-fn bad_entry(entry: u16, value: u64) -> Defect {
-    Defect::BadEntry {
-        chunk: 0,
-        entry,
-        value,
-    }
-}
+const ENTRIES: [(&[Put], Defect); 3] = [
+    (
+        &[(18440, 3074)],
+        Defect::BadEntry {
+            chunk: 0,
+            entry: 0,
+            value: 3074,
+        },
+    ),
+    (
+        &[(18440, 5634)],
+        Defect::BadEntry {
+            chunk: 0,
+            entry: 0,
+            value: 5634,
+        },
+    ),
+    (
+        &[(18943, 3330)],
+        Defect::BadEntry {
+            chunk: 0,
+            entry: 503,
+            value: 3330,
+        },
+    ),
+];
 
 // A slab that begins before the heap, one that ends behind it, and the chunk's last entry behind one that is 0.
 #[test]
 fn entries(rt: HostRuntime) -> Result<(), Fail> {
-    let rows: [(&[Put], Defect); 3] = [
-        (&[(18440, 3074)], bad_entry(0, 3074)),
-        (&[(18440, 5634)], bad_entry(0, 5634)),
-        (&[(18943, 3330)], bad_entry(503, 3330)),
-    ];
-    for (changes, defect) in rows {
+    for &(changes, defect) in &ENTRIES {
         same(
             &rt,
             &answer(rt.alloc(), &SECOND_VERSION, changes)?,
@@ -86,43 +99,59 @@ fn entries(rt: HostRuntime) -> Result<(), Fail> {
     Ok(())
 }
 
+const CHANGES: [(&[Put], Defect); 9] = [
+    (&[(2, 17)], Defect::BadDirectory { value: 17 }),
+    (
+        &[(18448, 33558273)],
+        Defect::Overlap {
+            first: 13,
+            second: 15,
+        },
+    ),
+    (
+        &[(26624, 1545)],
+        Defect::BadSlab {
+            start: 13,
+            value: 1545,
+        },
+    ),
+    (&[(64, 2)], Defect::BadWal { line: 0, value: 2 }),
+    (
+        &[(64, 0x0003_4800_4000_0001)],
+        Defect::BadWal {
+            line: 0,
+            value: 0x0003_4800_4000_0001,
+        },
+    ),
+    (
+        &[(2054, 215_056)],
+        Defect::StrayRoot {
+            root: 6,
+            at: 215_056,
+        },
+    ),
+    (
+        &[(18430, 215_040)],
+        Defect::SharedBlock {
+            first: 16382,
+            second: 16383,
+        },
+    ),
+    (&[(26640, 1)], Defect::StrayBit { at: 215_152 }),
+    (
+        &[(18448, 33558785), (18456, 33559297)],
+        Defect::TooManyLoose {
+            large: 2,
+            empty: 0,
+            morphing: 0,
+            done: 0,
+        },
+    ),
+];
+
 #[test]
 fn defects(rt: HostRuntime) -> Result<(), Fail> {
-    let rows: [(&[Put], Defect); 9] = [
-        (&[(2, 17)], Defect::BadDirectory { value: 17 }),
-        (
-            &[(18448, 33558273)],
-            Defect::Overlap {
-                first: 13,
-                second: 15,
-            },
-        ),
-        (&[(26624, 1545)], bad_slab(13, 1545)),
-        (&[(64, 2)], bad_wal(0, 2)),
-        (
-            &[(64, 0x0003_4800_4000_0001)],
-            bad_wal(0, 0x0003_4800_4000_0001),
-        ),
-        (
-            &[(2054, 215_056)],
-            Defect::StrayRoot {
-                root: 6,
-                at: 215_056,
-            },
-        ),
-        (&[(18430, 215_040)], shared(16382, 16383)),
-        (&[(26640, 1)], Defect::StrayBit { at: 215_152 }),
-        (
-            &[(18448, 33558785), (18456, 33559297)],
-            Defect::TooManyLoose {
-                large: 2,
-                empty: 0,
-                morphing: 0,
-                done: 0,
-            },
-        ),
-    ];
-    for (changes, defect) in rows {
+    for &(changes, defect) in &CHANGES {
         same(
             &rt,
             &answer(rt.alloc(), &SECOND_VERSION, changes)?,

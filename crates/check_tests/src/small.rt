@@ -1,7 +1,7 @@
 // Defects of an arena with one block, one by one. `moving` has its open entries of both kinds.
 mod moving;
 
-use crate::answers::{answer, answer_is, bad_slab, bad_wal, counts, shared};
+use crate::answers::{answer, answer_is, counts};
 use crate::images::{ONE_BLOCK, Put, blank, image, put};
 use crate::values::same;
 use pool_layout::Defect;
@@ -37,63 +37,76 @@ fn are_too_few<R: Abort>(rt: &R, alloc: Global, size: usize, defect: Defect) -> 
     answer_is(rt, alloc, &words, Err(defect))
 }
 
+const CHANGES: [(&[Put], Defect); 13] = [
+    (&[(0, 0)], Defect::BadHeader { word: 0, value: 0 }),
+    (
+        &[(1, 281543696187395)],
+        Defect::BadHeader {
+            word: 1,
+            value: 281543696187395,
+        },
+    ),
+    (&[(2, 17)], Defect::BadDirectory { value: 17 }),
+    (
+        &[(6152, 1024)],
+        Defect::BadEntry {
+            chunk: 0,
+            entry: 0,
+            value: 1024,
+        },
+    ),
+    (
+        &[(6160, 33555969)],
+        Defect::Overlap {
+            first: 4,
+            second: 6,
+        },
+    ),
+    (
+        &[(8192, 1545)],
+        Defect::BadSlab {
+            start: 4,
+            value: 1545,
+        },
+    ),
+    (&[(64, 2)], Defect::BadWal { line: 0, value: 2 }),
+    (&[(2054, 67600)], Defect::StrayRoot { root: 6, at: 67600 }),
+    (
+        &[(2054, 67584)],
+        Defect::SharedBlock {
+            first: 5,
+            second: 6,
+        },
+    ),
+    (&[(8208, 1)], Defect::StrayBit { at: 67696 }),
+    (
+        &[(6160, 33556481), (6168, 33556993)],
+        Defect::TooManyLoose {
+            large: 2,
+            empty: 0,
+            morphing: 0,
+            done: 0,
+        },
+    ),
+    // A chunk is named twice, and its entry stands behind a 0: the directory is looked at first.
+    (
+        &[(2, 257), (6152, 0), (6160, 1026)],
+        Defect::BadDirectory { value: 257 },
+    ),
+    // An entry stands behind a 0.
+    (
+        &[(6152, 0), (6160, 1026)],
+        Defect::BadEntry {
+            chunk: 0,
+            entry: 1,
+            value: 1026,
+        },
+    ),
+];
+
 #[test]
 fn defects(rt: HostRuntime) -> Result<(), Fail> {
-    let rows: [(&[Put], Defect); 13] = [
-        (&[(0, 0)], Defect::BadHeader { word: 0, value: 0 }),
-        (
-            &[(1, 281543696187395)],
-            Defect::BadHeader {
-                word: 1,
-                value: 281543696187395,
-            },
-        ),
-        (&[(2, 17)], Defect::BadDirectory { value: 17 }),
-        (
-            &[(6152, 1024)],
-            Defect::BadEntry {
-                chunk: 0,
-                entry: 0,
-                value: 1024,
-            },
-        ),
-        (
-            &[(6160, 33555969)],
-            Defect::Overlap {
-                first: 4,
-                second: 6,
-            },
-        ),
-        (&[(8192, 1545)], bad_slab(4, 1545)),
-        (&[(64, 2)], bad_wal(0, 2)),
-        (&[(2054, 67600)], Defect::StrayRoot { root: 6, at: 67600 }),
-        (&[(2054, 67584)], shared(5, 6)),
-        (&[(8208, 1)], Defect::StrayBit { at: 67696 }),
-        (
-            &[(6160, 33556481), (6168, 33556993)],
-            Defect::TooManyLoose {
-                large: 2,
-                empty: 0,
-                morphing: 0,
-                done: 0,
-            },
-        ),
-        // A chunk is named twice, and its entry stands behind a 0: the directory is looked at first.
-        (
-            &[(2, 257), (6152, 0), (6160, 1026)],
-            Defect::BadDirectory { value: 257 },
-        ),
-        // An entry stands behind a 0.
-        (
-            &[(6152, 0), (6160, 1026)],
-            Defect::BadEntry {
-                chunk: 0,
-                entry: 1,
-                value: 1026,
-            },
-        ),
-    ];
-    for (changes, defect) in rows {
+    for &(changes, defect) in &CHANGES {
         same(&rt, &answer(rt.alloc(), &ONE_BLOCK, changes)?, &Err(defect));
     }
     Ok(())

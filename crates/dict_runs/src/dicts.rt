@@ -30,7 +30,12 @@ pub(crate) fn new_dict<P: Pmem + Drop>(
     let arena = new_arena(alloc, device, pool, 0)?;
     match Dict::open(alloc, arena) {
         Ok(dict) => Ok(dict),
-        Err((OpenFault::Memory(fault), _)) => Err(fault),
-        Err((OpenFault::NotDict { .. }, _)) => unreachable!(),
+        Err((fault, arena)) => {
+            drop(arena);
+            match fault {
+                OpenFault::Memory(fault) => Err(fault),
+                OpenFault::NotDict { .. } => unreachable!(),
+            }
+        }
     }
 }

@@ -220,9 +220,11 @@ impl<P: Pmem> GcArena<P> {
     {
         let GcArena {
             device,
-            log: _,
-            indexes: _,
+            log,
+            indexes,
         } = self;
+        drop(log);
+        drop(indexes);
         device
     }
 }

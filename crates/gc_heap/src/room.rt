@@ -37,8 +37,13 @@ impl GcRoom {
         ensures { IfOk result (λ room. room ≡ granules) }
     {
         let log = BookLog::new(alloc, granules)?;
-        let indexes = HeapIndexes::new(alloc, granules, layout_of(VERSION).first_granule)?;
-        Ok(GcRoom { log, indexes })
+        match HeapIndexes::new(alloc, granules, layout_of(VERSION).first_granule) {
+            Ok(indexes) => Ok(GcRoom { log, indexes }),
+            Err(fault) => {
+                drop(log);
+                Err(fault)
+            }
+        }
     }
 
     // How many granules it is for.

@@ -8,26 +8,27 @@ use std::test::Fail;
 // What is put over the words of the arena, what is to stand over these once it is recovered, and by how many events.
 type Row = (&'static [Put], &'static [Put], u32);
 
+const LOOSE: [Row; 5] = [
+    (&[], &[], 0),
+    (&[(6160, 33556481)], &[(6168, 2051)], 3),
+    (&[(2053, 0)], &[(6160, 1027)], 3),
+    (
+        &[(6160, 33556481), (2053, 0)],
+        &[(6168, 2051), (6176, 1027)],
+        6,
+    ),
+    (
+        &[(6160, 33556481), (6168, 33556993), (2054, 131072)],
+        &[(6176, 2563)],
+        3,
+    ),
+];
+
 // An exact image stays as it is. Then a large extent at granule 8 that no root names, a slab in which no root's block lies, and
 // both, of which the large one comes first. Last a large extent that root 6 names, which stays, while another at 10 goes.
 #[test]
 fn loose_extents(rt: HostRuntime) -> Result<(), Fail> {
-    let rows: [Row; 5] = [
-        (&[], &[], 0),
-        (&[(6160, 33556481)], &[(6168, 2051)], 3),
-        (&[(2053, 0)], &[(6160, 1027)], 3),
-        (
-            &[(6160, 33556481), (2053, 0)],
-            &[(6168, 2051), (6176, 1027)],
-            6,
-        ),
-        (
-            &[(6160, 33556481), (6168, 33556993), (2054, 131072)],
-            &[(6176, 2563)],
-            3,
-        ),
-    ];
-    for (changes, after, events) in rows {
+    for &(changes, after, events) in &LOOSE {
         assert_eq!(rt;
             recovered(rt.alloc(), changes, after)?,
             Became::Wanted { events }

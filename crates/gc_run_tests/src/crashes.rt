@@ -33,58 +33,60 @@ fn left_at(alloc: Global, text: &[u8], event: u64) -> Result<Left, Fail>
     }
 }
 
+const IN_FIRST_BLOCK: [(u64, Left); 4] = [
+    (
+        6,
+        Left::Within {
+            call: 1,
+            side: CrashSide::Before,
+        },
+    ),
+    (
+        7,
+        Left::Within {
+            call: 1,
+            side: CrashSide::After,
+        },
+    ),
+    (
+        9,
+        Left::Within {
+            call: 1,
+            side: CrashSide::After,
+        },
+    ),
+    (10, Left::NoEvent { events: 9 }),
+];
+
 #[test]
 fn within_a_first_block(rt: HostRuntime) -> Result<(), Fail> {
-    let rows = [
-        (
-            6,
-            Left::Within {
-                call: 1,
-                side: CrashSide::Before,
-            },
-        ),
-        (
-            7,
-            Left::Within {
-                call: 1,
-                side: CrashSide::After,
-            },
-        ),
-        (
-            9,
-            Left::Within {
-                call: 1,
-                side: CrashSide::After,
-            },
-        ),
-        (10, Left::NoEvent { events: 9 }),
-    ];
-    for (event, left) in rows {
+    for &(event, left) in &IN_FIRST_BLOCK {
         assert_eq!(rt; left_at(rt.alloc(), FIRST_BLOCK, event)?, left);
     }
     Ok(())
 }
 
+const IN_MORPH: [(u64, Left); 3] = [
+    (
+        18,
+        Left::Within {
+            call: 3,
+            side: CrashSide::Before,
+        },
+    ),
+    (
+        21,
+        Left::Within {
+            call: 3,
+            side: CrashSide::After,
+        },
+    ),
+    (22, Left::NoEvent { events: 21 }),
+];
+
 #[test]
 fn within_a_slab_that_takes_another_class(rt: HostRuntime) -> Result<(), Fail> {
-    let rows = [
-        (
-            18,
-            Left::Within {
-                call: 3,
-                side: CrashSide::Before,
-            },
-        ),
-        (
-            21,
-            Left::Within {
-                call: 3,
-                side: CrashSide::After,
-            },
-        ),
-        (22, Left::NoEvent { events: 21 }),
-    ];
-    for (event, left) in rows {
+    for &(event, left) in &IN_MORPH {
         assert_eq!(rt; left_at(rt.alloc(), MORPH, event)?, left);
     }
     Ok(())

@@ -32,8 +32,12 @@ pub fn run_gc_calls<P: Pmem + Drop>(
     ensures { IfOk result (λ left. HasToldArena (pool_of trace.now) trace.now.calls.items arena text.old.items text.new.items (P.state left)) }
 {
     let mut made = new_gc_arena(alloc, device, trace.pool(), arena)?;
-    report_calls(alloc, &mut made, arena, &trace.calls, text)?;
-    Ok(made.into_pmem())
+    let told = report_calls(alloc, &mut made, arena, &trace.calls, text);
+    let left = made.into_pmem();
+    match told {
+        Ok(()) => Ok(left),
+        Err(fault) => Err(fault),
+    }
 }
 
 // Makes those calls that are of the arena of this number, in order, and writes the report of the arena behind a text.

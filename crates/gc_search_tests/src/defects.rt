@@ -53,36 +53,37 @@ fn headers(rt: HostRuntime) -> Result<(), Fail> {
     Ok(())
 }
 
+const LOGS: [(&[Put], Defect); 4] = [
+    (&[(2, 17)], Defect::BadDirectory { value: 17 }),
+    (
+        &[(6152, 1024)],
+        Defect::BadEntry {
+            chunk: 0,
+            entry: 0,
+            value: 1024,
+        },
+    ),
+    // An entry stands behind a 0.
+    (
+        &[(6152, 0), (6160, 1026)],
+        Defect::BadEntry {
+            chunk: 0,
+            entry: 1,
+            value: 1026,
+        },
+    ),
+    (
+        &[(6160, 33555969)],
+        Defect::Overlap {
+            first: 4,
+            second: 6,
+        },
+    ),
+];
+
 #[test]
 fn logs(rt: HostRuntime) -> Result<(), Fail> {
-    let rows: [(&[Put], Defect); 4] = [
-        (&[(2, 17)], Defect::BadDirectory { value: 17 }),
-        (
-            &[(6152, 1024)],
-            Defect::BadEntry {
-                chunk: 0,
-                entry: 0,
-                value: 1024,
-            },
-        ),
-        // An entry stands behind a 0.
-        (
-            &[(6152, 0), (6160, 1026)],
-            Defect::BadEntry {
-                chunk: 0,
-                entry: 1,
-                value: 1026,
-            },
-        ),
-        (
-            &[(6160, 33555969)],
-            Defect::Overlap {
-                first: 4,
-                second: 6,
-            },
-        ),
-    ];
-    for (changes, defect) in rows {
+    for &(changes, defect) in &LOGS {
         same(&rt, &answer(rt.alloc(), changes)?, &Some(defect));
     }
     Ok(())

@@ -1,33 +1,15 @@
 -- The search for the slab that takes a class: the candidates come in order, so the first one that is ready is the best; what was
 -- found unfit stays known. And what it finds is what the choice of the machine asks for.
-use Rattle.std.proofs.Common.{◌≡◌, ◌≢◌, ◌⊎◌, ◌==◌, ◌&&◌, if◌then◌else◌, ℕ, ◌+◌, ◌-◌, ◌*◌, ◌<◌, ◌≤◌, Bool, true, false, List, slice_index, slice_index_or, refl, ap, length, Option, Some, None, MatchOption, IfSome, sym, ◌∙◌, subst, arith, inl, inr, ⊎_elim}
+use Rattle.std.proofs.Common.{◌≡◌, ◌⊎◌, ◌==◌, ◌&&◌, if◌then◌else◌, ℕ, ◌<◌, ◌≤◌, Bool, true, false, refl, ap, length, Option, Some, MatchOption, IfSome, sym, ◌∙◌, subst, arith, inl, inr, ⊎_elim}
 use Rattle.heap_indexes.proofs.Common.{cases_lt, class_capacity, slab_block, IsUnused, Bounds, Machine, IsOverlapFree, IsBestSlab, HasNoFitSlab, slab_view, live_below, view_of, Lives, Units, law_of_unused_blocks, Indexes, AreIndexesOf, IsInTransition}
 use Rattle.heap_model.specs.Choice.{IsFit}
 use Rattle.slab_index.specs.declared.candidates.Candidate.{Candidate}
-use Rattle.slab_lives.specs.Lives.{normal_at, IsSparse, HasNoSparse, IsFirstSparse}
+use Rattle.slab_index.specs.Lives.{normal_at, IsSparse, HasNoSparse, IsFirstSparse}
 use Rattle.slab_index.specs.Unfit.{is_unfit}
-use Rattle.std.proofs.lemmas.Bool.{cases_eq, cond-true, false_from_ne_true, false≢true, and_from, and_parts, eq-eqb, eqb-true}
+use Rattle.slab_index.proofs.Noting.{left_behind, same_normal, nearer}
+use Rattle.std.proofs.lemmas.Bool.{false_from_ne_true, and_parts, eqb-true}
 use Rattle.unit_map.specs.Blocks.{HasNoClearBlock, IsFirstClearBlock}
 use Rattle.heap_indexes.specs.Fitting.{HasClearBlock, HasNoReady, IsFirstReady, AreNotedBesides}
-
--- how far a candidate is from the last place that one may have
-abbrev pub left_behind : Option Candidate → ℕ
-left_behind None = 0
-left_behind (Some found) = 300000 - (4096 * found.live + found.start)
-
--- the same row has the same slabs
-same_normal : (lives next : Lives) → next.normal ≡ lives.normal → (s : ℕ) → normal_at lives s ≡ normal_at next s
-unfolding normal_at
-same_normal lives next normal s = ap (λ (row : List (Option ℕ)). slice_index_or row s None) (sym normal)
-
--- either way
-always : (b : Bool) → (if b then true else true) ≡ true
-always true = refl
-always false = refl
-
--- what is not said to be is not
-unsaid : (b : Bool) → ¬ (b ≡ true) → b ≡ false
-unsaid b differs = false_from_ne_true b differs
 
 -- the slabs that are searched
 
@@ -69,41 +51,10 @@ noted_more {old} {lives} {next} {units} {class} start so_far none counts normal 
     by c s false is known = so_far.each c s (sym (noted c s ∙ ap (λ b. if b then true else is_unfit lives.unfit c s) is) ∙ known)
 
 -- a candidate that comes once one was noted is nearer to the end
-smaller_by : (lives next : Lives) (class : ℕ) (found : Candidate) (later : Option Candidate) → IsFirstSparse lives class found → length lives.counts ≤ 4096 → found.start < length lives.counts → next.counts ≡ lives.counts → next.normal ≡ lives.normal →
-    ((c s : ℕ) → is_unfit next.unfit c s ≡ (if s == found.start && c == class then true else is_unfit lives.unfit c s)) → MatchOption later (HasNoSparse next class) (IsFirstSparse next class) → IfSome later (λ more. more.start < length next.counts) → left_behind later < left_behind (Some found)
-smaller_by lives next class found None first size inside counts normal noted none within = omega (arith, first.is.few, inside, size)
-smaller_by lives next class found (Some later) first size inside counts normal noted second within =
-    let is = second.is in
-    let known : (s : ℕ) → is_unfit lives.unfit class s ≡ true → is_unfit next.unfit class s ≡ true = λ s was. noted class s ∙ ap (λ b. if s == found.start && class == class then true else b) was ∙ always (s == found.start && class == class) in
-    let before : IsSparse lives class later.start later.live = record {
-      own = is.own;
-      slab = same_normal lives next normal later.start ∙ is.slab;
-      count = is.count ∙ ap (λ (n : List ℕ). slice_index n later.start) counts;
-      differs = is.differs;
-      few = is.few;
-      sparse = is.sparse;
-      sought = unsaid (is_unfit lives.unfit class later.start) (λ was. false≢true (sym is.sought ∙ known later.start was));
-    } in
-    let differ : later.start ≢ found.start = λ same. false≢true (sym is.sought ∙ noted class later.start ∙ cond-true (later.start == found.start && class == class) true (is_unfit lives.unfit class later.start) (and_from (later.start == found.start) (class == class) (eq-eqb later.start found.start same) (eq-eqb class class refl))) in
-    let behind = first.first later.start later.live before in
-    let few = first.is.few in
-    let low : later.start < 4096 = omega (arith, within, size, ap (λ (n : List ℕ). length n) counts) in
-    ⊎_elim
-    (λ (less : later.live < found.live). absurd (behind (inl less)))
-    (λ (most : found.live ≤ later.live). ⊎_elim
-    (λ (same : later.live ≡ found.live). ⊎_elim
-    (λ (lower : later.start < found.start). absurd (behind (inr (same, lower))))
-    (λ (upper : found.start ≤ later.start). omega (arith, same, upper, differ, low, few, is.few))
-    (cases_lt later.start found.start))
-    (λ (more : later.live ≢ found.live). omega (arith, more, most, low, few, is.few, inside, size))
-    (cases_eq later.live found.live))
-    (cases_lt later.live found.live)
-
--- as the search has it
 pub smaller : (old lives next : Lives) (units : Units) (class : ℕ) (found : Candidate) (later : Option Candidate) → AreNotedBesides old units class lives → length old.counts ≤ 4096 → IsFirstSparse lives class found → found.start < length lives.counts → next.counts ≡ lives.counts → next.normal ≡ lives.normal →
     ((c s : ℕ) → is_unfit next.unfit c s ≡ (if s == found.start && c == class then true else is_unfit lives.unfit c s)) → MatchOption later (HasNoSparse next class) (IsFirstSparse next class) → IfSome later (λ more. more.start < length next.counts) → left_behind later < left_behind (Some found)
 smaller old lives next units class found later so_far few first inside counts normal noted second within =
-    smaller_by lives next class found later first (omega (arith, few, ap (λ (l : Lives). length l.counts) so_far.same)) inside counts normal noted second within
+    nearer lives next class found later first (omega (arith, few, ap (λ (l : Lives). length l.counts) so_far.same)) inside counts normal noted second within
 
 -- the choice of the machine
 
@@ -116,7 +67,7 @@ module _ {b : Bounds} {m : Machine} {x : Indexes} (apart : IsOverlapFree b m) (a
 
   -- a fit slab was not found unfit
   sought : (s : ℕ) → IsFit (slab_view (view_of b m)) class s → is_unfit x.lives.unfit class s ≡ false
-  sought s fit = unsaid (is_unfit x.lives.unfit class s) (λ noted. are.lives.unfit s fit.class class fit.number fit.slab is_class noted fit.block.within fit.block.unused)
+  sought s fit = false_from_ne_true (is_unfit x.lives.unfit class s) (λ noted. are.lives.unfit s fit.class class fit.number fit.slab is_class noted fit.block.within fit.block.unused)
 
   -- so it is sparse, and it has a clear block
   sparse_of_fit : (s : ℕ) (fit : IsFit (slab_view (view_of b m)) class s) → IsSparse x.lives class s (live_below m.block s b.roots)

@@ -19,7 +19,7 @@ pub use Rattle.heap_model.proofs.Fits.{IsBestFit-same, HasNoFit-same, fit_free}
 pub use Rattle.extent_index.specs.FreeSet.{FreeSet, IsFree, IsHeldRow}
 pub use Rattle.slab_index.specs.SlabSet.{class_in, IsSlab, IsBlock}
 pub use Rattle.slab_index.specs.declared.block.SlabBlock.{SlabBlock}
-pub use Rattle.slab_lives.specs.Lives.{Lives, normal_at}
+pub use Rattle.slab_index.specs.Lives.{Lives, normal_at}
 pub use Rattle.thread_cache.specs.Stacks.{stacks_of}
 pub use Rattle.block_supply.specs.Supply.{Supply, MayBeGiven, supply_view, TookBlock, HasNoOpen, HadNoOpen, IsInSlabOf, IsInNoSlabOf, IsWith, IsWithout, IsClearOf, HasSlabMore, HasSlabLess, IsPutOn, CameBack}
 pub use Rattle.block_supply.proofs.Views.{AgreeOnBlocks}

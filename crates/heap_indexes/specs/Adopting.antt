@@ -7,7 +7,7 @@ use Rattle.heap_model.specs.Slabs.{live_below, IsInTransition}
 use Rattle.extent_index.specs.FreeSet.{IsFree}
 use Rattle.slab_index.specs.SlabSet.{class_in}
 use Rattle.slab_index.specs.Unfit.{is_unfit}
-use Rattle.slab_lives.specs.Lives.{normal_at}
+use Rattle.slab_index.specs.Lives.{normal_at}
 use Rattle.block_supply.specs.Supply.{MayBeGiven}
 use Rattle.unit_map.specs.Blocks.{IsOnUnits, AreUnitsOf}
 use Rattle.heap_indexes.specs.Indexes.{Indexes, strangers_below, AreSizedFor, AreInSlabs, AreIndexesOf}

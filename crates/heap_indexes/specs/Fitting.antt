@@ -4,7 +4,7 @@ use Rattle.size_classes.specs.Classes.{class_capacity}
 use Rattle.heap_model.specs.Machine.{slab_block}
 use Rattle.slab_index.specs.Candidates.{IsBefore}
 use Rattle.slab_index.specs.Unfit.{is_unfit}
-use Rattle.slab_lives.specs.Lives.{Lives, IsSparse}
+use Rattle.slab_index.specs.Lives.{Lives, IsSparse}
 use Rattle.unit_map.specs.Units.{Units}
 use Rattle.unit_map.specs.Blocks.{IsClearRange}
 

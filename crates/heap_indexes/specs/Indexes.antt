@@ -7,7 +7,7 @@ use Rattle.heap_model.specs.Slabs.{is_within, live_below, IsInTransition}
 use Rattle.extent_index.specs.FreeSet.{FreeSet, IsFree}
 use Rattle.slab_index.specs.SlabSet.{class_in}
 use Rattle.slab_index.specs.Unfit.{is_unfit}
-use Rattle.slab_lives.specs.Lives.{Lives, normal_at}
+use Rattle.slab_index.specs.Lives.{Lives, normal_at}
 use Rattle.block_supply.specs.Supply.{Supply, MayBeGiven}
 use Rattle.unit_map.specs.Units.{Units}
 use Rattle.unit_map.specs.Blocks.{AreUnitsOf}

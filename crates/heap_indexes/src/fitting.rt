@@ -1,9 +1,9 @@
 // Which slab takes another class for a malloc.
 ghost use Rattle.std.specs.Prelude.{◌≡◌, ℕ, ◌+◌, ◌<◌, ◌≤◌, Some, length, MatchOption};
-ghost use Rattle.slab_lives.specs.Lives.{normal_at};
+ghost use Rattle.slab_index.specs.Lives.{normal_at};
 ghost use Rattle.heap_indexes.specs.Fitting.{HasNoReady, IsFirstReady, AreNotedBesides};
 
-use slab_lives::SlabLives;
+use slab_index::SlabLives;
 use unit_map::UnitMap;
 
 /// Of the slabs with so few live blocks that they may take a class, below 36, and in which some block of the class is clear, the

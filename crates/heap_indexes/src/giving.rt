@@ -5,7 +5,7 @@ ghost use Rattle.heap_model.specs.Machine.{with_key, slab_block};
 ghost use Rattle.thread_cache.specs.Stacks.{stacks_of};
 ghost use Rattle.slab_index.specs.SlabSet.{class_in, IsSlab};
 ghost use Rattle.slab_index.specs.Unfit.{is_unfit};
-ghost use Rattle.slab_lives.specs.Lives.{normal_at};
+ghost use Rattle.slab_index.specs.Lives.{normal_at};
 ghost use Rattle.block_supply.specs.Supply.{IsInSlabOf, IsPutOn};
 ghost use Rattle.heap_indexes.specs.Indexes.{HaveState};
 ghost use Rattle.heap_indexes.specs.Steps.{IsGivenBy, HasLive};
@@ -16,7 +16,7 @@ use crate::range::{GRANULE_BYTES, SLAB_GRANULES, UNIT_BYTES, address_of, number_
 use crate::{Given, HeapIndexes};
 use block_supply::{SlabAt, SlabBlock};
 use size_classes::size_of_class;
-use slab_lives::SlabLives;
+use slab_index::SlabLives;
 
 impl HeapIndexes {
     /// Gives whole granules back, from one on, which a root has.

@@ -8,13 +8,12 @@ ghost use Rattle.heap_indexes.specs.Steps.{IsPlacedBy, IsGivenBy, HasLive};
 ghost use Rattle.heap_indexes.specs.Adopting.{IsAdoptable, AreAdopted};
 
 use crate::range::{GRANULE_BYTES, LARGEST_SMALL};
-use crate::strangers::StrangerCounts;
 use crate::{Given, Place};
 use block_supply::BlockSupply;
 use extent_index::ExtentIndex;
 use pmem_lines::OutOfMemory;
 use size_classes::{class_of, granules};
-use slab_lives::SlabLives;
+use slab_index::{SlabCounts, SlabLives};
 use std::alloc::Global;
 use std::marker::Model;
 use unit_map::UnitMap;
@@ -30,7 +29,7 @@ pub struct HeapIndexes {
     pub(crate) free: ExtentIndex,
     pub(crate) supply: BlockSupply,
     pub(crate) lives: SlabLives,
-    pub(crate) strangers: StrangerCounts,
+    pub(crate) strangers: SlabCounts,
     pub(crate) units: UnitMap,
 }
 
@@ -55,19 +54,31 @@ impl HeapIndexes {
         ensures indexes { IfOk result (λ indexes. (b : Bounds) → b.granules ≡ granules → b.first ≡ first → b.roots + 1 < 2 ^ 32 → AreIndexesOf b no_heap indexes) }
         ensures stacks { IfOk result (λ indexes. stacks_of indexes.supply.stacks ≡ no_stacks) }
     {
-        let mut free = ExtentIndex::new(alloc, granules)?;
-        free.take(FIRST_FREE, first - FIRST_FREE);
-        let supply = BlockSupply::new(alloc, granules)?;
-        let lives = SlabLives::new(alloc, granules)?;
-        let strangers = StrangerCounts::new(alloc, granules)?;
+        let strangers = SlabCounts::new(alloc, granules)?;
         let units = UnitMap::new(alloc, granules)?;
-        Ok(HeapIndexes {
-            free,
-            supply,
-            lives,
-            strangers,
-            units,
-        })
+        let lives = SlabLives::new(alloc, granules)?;
+        let mut free = match ExtentIndex::new(alloc, granules) {
+            Ok(free) => free,
+            Err(fault) => {
+                drop(lives);
+                return Err(fault);
+            }
+        };
+        free.take(FIRST_FREE, first - FIRST_FREE);
+        match BlockSupply::new(alloc, granules) {
+            Ok(supply) => Ok(HeapIndexes {
+                free,
+                supply,
+                lives,
+                strangers,
+                units,
+            }),
+            Err(fault) => {
+                drop(lives);
+                drop(free);
+                Err(fault)
+            }
+        }
     }
 
     /// Finds a block for a request of a seat, below 64, of some bytes and fewer than 2^32, and gives it: it is live from then

@@ -24,7 +24,6 @@ mod giving;
 mod indexes;
 mod placing;
 mod range;
-mod strangers;
 
 pub use adopting::{law_of_adopted_indexes, law_of_passed_granules, law_of_passed_roots};
 pub use answer::{Given, Place};

@@ -6,7 +6,7 @@ ghost use Rattle.heap_model.specs.Runs.{IsBestFit};
 ghost use Rattle.heap_model.specs.Placement.{with_class};
 ghost use Rattle.extent_index.specs.FreeSet.{IsFree};
 ghost use Rattle.slab_index.specs.Unfit.{is_unfit};
-ghost use Rattle.slab_lives.specs.Lives.{normal_at};
+ghost use Rattle.slab_index.specs.Lives.{normal_at};
 ghost use Rattle.block_supply.specs.Supply.{HasNoOpen, HasSlabMore};
 ghost use Rattle.heap_indexes.specs.Indexes.{HaveState};
 ghost use Rattle.heap_indexes.specs.Steps.{IsPlacedBy};
@@ -18,7 +18,7 @@ use crate::range::{SLAB_GRANULES, UNIT_BYTES, address_of};
 use crate::{HeapIndexes, Place};
 use block_supply::SlabBlock;
 use size_classes::size_of_class;
-use slab_lives::SlabLives;
+use slab_index::SlabLives;
 
 impl HeapIndexes {
     /// Finds so many granules, two at least, at their best fit, and takes them.

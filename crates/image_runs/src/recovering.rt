@@ -39,13 +39,12 @@ pub fn recover_heap<P: Pmem + Drop>(alloc: Global, device: P) -> Result<Recovere
 {
     let arena = match recover(alloc, device) {
         Ok(arena) => arena,
-        Err((fault, _)) => return Err(fault),
+        Err((fault, _device)) => return Err(fault),
     };
-    match blocks_of(alloc, &arena) {
-        Ok(blocks) => Ok(Recovered {
-            blocks,
-            device: arena.into_pmem(),
-        }),
+    let listed = blocks_of(alloc, &arena);
+    let device = arena.into_pmem();
+    match listed {
+        Ok(blocks) => Ok(Recovered { blocks, device }),
         Err(error) => Err(RecoverFault::Memory(error)),
     }
 }

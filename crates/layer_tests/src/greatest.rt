@@ -4,9 +4,6 @@ ghost use Rattle.std.specs.Prelude.{◌≡◌, ◌<◌, ◌≤◌, length};
 use crate::values::same;
 use dict_index::Numbers;
 use pmem_lines::OutOfMemory;
-use rand_core::SeedableRng;
-use rand_core::utils::NextWord;
-use rand_xoshiro::SplitMix64;
 use std::alloc::Global;
 use std::process::Abort;
 use std::test::Fail;
@@ -53,27 +50,4 @@ fn rise_and_fall<R: Abort>(rt: &R, numbers: &mut Numbers)
     same(rt, &greatest_without(numbers, 71), &2);
     same(rt, &greatest_without(numbers, 0), &2);
     same(rt, &greatest_without(numbers, 70), &0);
-}
-
-// Beside a list of the numbers.
-#[test]
-fn numbers_as_in_a_list(rt: HostRuntime) -> Result<(), Fail> {
-    let mut numbers = Numbers::with_room(rt.alloc(), ROOTS as u32)?;
-    change_as_in_a_list(&rt, &mut numbers);
-    Ok(())
-}
-
-fn change_as_in_a_list<R: Abort>(rt: &R, numbers: &mut Numbers)
-    requires { length numbers.old ≡ 150 }
-{
-    let mut list = [0u64; ROOTS];
-    let mut random = SplitMix64::from_seed([11; 8]);
-    for _ in 0..2000u32 {
-        let root = (random.next_word() % 150) as u32;
-        // Every third one goes.
-        let number = (random.next_word() % 900).saturating_sub(300);
-        list[root as usize] = number;
-        let greatest = list.iter().max();
-        same(rt, &Some(&greatest_with(numbers, root, number)), &greatest);
-    }
 }

@@ -6,9 +6,6 @@ ghost use Rattle.dict_index.specs.KeyRoots.{IsKeyed, IsKeyMap, LacksRoot};
 use crate::values::same;
 use dict_index::{KeyMap, Keyed};
 use pmem_lines::OutOfMemory;
-use rand_core::SeedableRng;
-use rand_core::utils::NextWord;
-use rand_xoshiro::SplitMix64;
 use std::alloc::{AllocError, Global};
 use std::process::Abort;
 use std::test::Fail;
@@ -212,31 +209,4 @@ fn are_the_most<R: Abort>(rt: &R, map: &KeyMap) {
         same(rt, &pair_of(map.next_from(key)), &Some((key, root)));
     }
     same(rt, &map.next_from(65535 * STRIDE), &None);
-}
-
-// Roots that go from key to key, beside a list of the root of each key.
-#[test]
-fn roots_as_in_a_list(rt: HostRuntime) -> Result<(), Fail> {
-    let mut map = map_of(rt.alloc(), &[0, 2, 4, 6, 8, 10, 12, 14, 16, 18, 20, 22])?;
-    swap_as_in_a_list(&rt, &mut map);
-    Ok(())
-}
-
-fn swap_as_in_a_list<R: Abort>(rt: &R, map: &mut KeyMap) {
-    let mut list = [None; 24];
-    for i in 0..12u32 {
-        list[2 * i as usize] = Some(i);
-    }
-    let mut random = SplitMix64::from_seed([7; 8]);
-    for _ in 0..2000u32 {
-        let from = (random.next_word() % 24) as usize;
-        let to = (random.next_word() % 24) as usize;
-        if list[from].is_some() && from != to {
-            same(rt, &swap(map, from as u64, to as u64), &list[to]);
-            list.swap(from, to);
-        }
-        assert_eq!(rt; map.get(from as u64), list[from], "the root of {from}");
-        assert_eq!(rt; map.get(to as u64), list[to], "the root of {to}");
-    }
-    same(rt, &map.len(), &12);
 }

@@ -63,54 +63,26 @@ fn all_mend<R: Abort>(
     Ok(())
 }
 
+/// A block that was coming, one that was leaving, a slab that was taking a class, one that was coming or going, and a log that was
+/// rolling.
+const SETS: [&[Case]; 5] = [&COMING, &LEAVING, &CLASSES, &SLABS, &ROLLS];
+
+const SETS_2: [&[Case]; 5] = [&COMING_2, &LEAVING_2, &CLASSES_2, &SLABS_2, &ROLLS_2];
+
 #[test]
-fn a_block_that_was_coming_is_mended(rt: HostRuntime) -> Result<(), Fail> {
-    all_mend(&rt, rt.alloc(), FIRST, &LOG, &COMING)
+fn what_a_cut_leaves_is_mended(rt: HostRuntime) -> Result<(), Fail> {
+    for cases in SETS {
+        all_mend(&rt, rt.alloc(), FIRST, &LOG, cases)?;
+    }
+    Ok(())
 }
 
 #[test]
-fn a_block_that_was_coming_is_mended_in_version_2(rt: HostRuntime) -> Result<(), Fail> {
-    all_mend(&rt, rt.alloc(), SECOND, &LOG_2, &COMING_2)
-}
-
-#[test]
-fn a_block_that_was_leaving_is_mended(rt: HostRuntime) -> Result<(), Fail> {
-    all_mend(&rt, rt.alloc(), FIRST, &LOG, &LEAVING)
-}
-
-#[test]
-fn a_block_that_was_leaving_is_mended_in_version_2(rt: HostRuntime) -> Result<(), Fail> {
-    all_mend(&rt, rt.alloc(), SECOND, &LOG_2, &LEAVING_2)
-}
-
-#[test]
-fn a_slab_that_was_taking_a_class_is_mended(rt: HostRuntime) -> Result<(), Fail> {
-    all_mend(&rt, rt.alloc(), FIRST, &LOG, &CLASSES)
-}
-
-#[test]
-fn a_slab_that_was_taking_a_class_is_mended_in_version_2(rt: HostRuntime) -> Result<(), Fail> {
-    all_mend(&rt, rt.alloc(), SECOND, &LOG_2, &CLASSES_2)
-}
-
-#[test]
-fn a_slab_that_was_coming_or_going_is_mended(rt: HostRuntime) -> Result<(), Fail> {
-    all_mend(&rt, rt.alloc(), FIRST, &LOG, &SLABS)
-}
-
-#[test]
-fn a_slab_that_was_coming_or_going_is_mended_in_version_2(rt: HostRuntime) -> Result<(), Fail> {
-    all_mend(&rt, rt.alloc(), SECOND, &LOG_2, &SLABS_2)
-}
-
-#[test]
-fn a_log_that_was_rolling_is_mended(rt: HostRuntime) -> Result<(), Fail> {
-    all_mend(&rt, rt.alloc(), FIRST, &LOG, &ROLLS)
-}
-
-#[test]
-fn a_log_that_was_rolling_is_mended_in_version_2(rt: HostRuntime) -> Result<(), Fail> {
-    all_mend(&rt, rt.alloc(), SECOND, &LOG_2, &ROLLS_2)
+fn what_a_cut_leaves_is_mended_in_version_2(rt: HostRuntime) -> Result<(), Fail> {
+    for cases in SETS_2 {
+        all_mend(&rt, rt.alloc(), SECOND, &LOG_2, cases)?;
+    }
+    Ok(())
 }
 
 /// A block of 112 bytes comes and goes in one arena, and one stays in the other.

@@ -221,11 +221,7 @@ const WORDS_OF_ROOT_6: &str = "00010890 0000000000000000 0000000000000000
 
 #[test]
 fn each_word_says_what_an_arena_of_the_gc_variant_has(rt: HostRuntime) -> Result<(), Fail> {
-    all_hold(&rt, rt.alloc(), &WHOLE)
-}
-
-#[test]
-fn each_word_says_what_a_cut_left_in_the_gc_variant(rt: HostRuntime) -> Result<(), Fail> {
+    all_hold(&rt, rt.alloc(), &WHOLE)?;
     all_hold(&rt, rt.alloc(), &CUT)
 }
 

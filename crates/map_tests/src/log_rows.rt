@@ -160,16 +160,8 @@ const WORDS_OF_ROOT_5: &str = "00010800 0123456789abcdef 0000000000000000
 
 #[test]
 fn each_word_says_what_an_arena_has(rt: HostRuntime) -> Result<(), Fail> {
-    all_hold(&rt, rt.alloc(), &FIRST)
-}
-
-#[test]
-fn each_word_says_what_an_arena_of_version_2_has(rt: HostRuntime) -> Result<(), Fail> {
-    all_hold(&rt, rt.alloc(), &SECOND)
-}
-
-#[test]
-fn each_word_says_what_is_loose_and_what_two_arenas_have(rt: HostRuntime) -> Result<(), Fail> {
+    all_hold(&rt, rt.alloc(), &FIRST)?;
+    all_hold(&rt, rt.alloc(), &SECOND)?;
     all_hold(&rt, rt.alloc(), &OTHERS)
 }
 

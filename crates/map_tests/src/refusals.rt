@@ -274,29 +274,15 @@ fn all_refuse<R: Abort>(rt: &R, alloc: Global, rows: &[Refused]) -> Result<(), F
     Ok(())
 }
 
-#[test]
-fn a_file_that_is_no_pool_is_refused(rt: HostRuntime) -> Result<(), Fail> {
-    all_refuse(&rt, rt.alloc(), &OF_FILES)
-}
+/// A file that is no pool, an arena that is not sound, one with too much under way, one of version 2, and one of the GC variant.
+const UNFIT: [&[Refused]; 5] = [&OF_FILES, &OF_ARENAS, &TOO_LOOSE, &OF_VERSION_2, &OF_GC];
 
 #[test]
-fn an_arena_that_is_not_sound_is_refused(rt: HostRuntime) -> Result<(), Fail> {
-    all_refuse(&rt, rt.alloc(), &OF_ARENAS)
-}
-
-#[test]
-fn an_arena_with_too_much_under_way_is_refused(rt: HostRuntime) -> Result<(), Fail> {
-    all_refuse(&rt, rt.alloc(), &TOO_LOOSE)
-}
-
-#[test]
-fn an_arena_of_version_2_that_is_not_sound_is_refused(rt: HostRuntime) -> Result<(), Fail> {
-    all_refuse(&rt, rt.alloc(), &OF_VERSION_2)
-}
-
-#[test]
-fn an_arena_of_the_gc_variant_that_is_not_sound_is_refused(rt: HostRuntime) -> Result<(), Fail> {
-    all_refuse(&rt, rt.alloc(), &OF_GC)
+fn an_image_that_is_not_sound_is_refused(rt: HostRuntime) -> Result<(), Fail> {
+    for rows in UNFIT {
+        all_refuse(&rt, rt.alloc(), rows)?;
+    }
+    Ok(())
 }
 
 // `dump` asks for the header lines and the one arena alone.

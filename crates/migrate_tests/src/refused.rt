@@ -28,36 +28,38 @@ fn lengths(rt: HostRuntime) -> Result<(), Fail> {
     }
     Ok(())
 }
+// The second word of a header line of version 3.
+const THIRD: u64 = 0x0001_0010_0000_0003;
+
+const CHANGES: [(&[Put], Defect); 6] = [
+    (&[(0, 7)], Defect::BadHeader { word: 0, value: 7 }),
+    (
+        &[(0, 7), (1, SECOND)],
+        Defect::BadHeader { word: 0, value: 7 },
+    ),
+    (
+        &[(1, THIRD)],
+        Defect::BadHeader {
+            word: 1,
+            value: THIRD,
+        },
+    ),
+    (
+        &[(1, TOO_SMALL)],
+        Defect::BadHeader {
+            word: 1,
+            value: TOO_SMALL,
+        },
+    ),
+    (&[(2054, 67600)], Defect::StrayRoot { root: 6, at: 67600 }),
+    (&[(2054, 67600), (2, 0)], Defect::BadDirectory { value: 0 }),
+];
 
 // Another text, a version that no pool has, and too few granules for the version: the header line is bad. A root that names
 // no block, and a log without a chunk that comes before.
 #[test]
 fn defects(rt: HostRuntime) -> Result<(), Fail> {
-    let third = 0x0001_0010_0000_0003;
-    let rows: [(&[Put], Defect); 6] = [
-        (&[(0, 7)], Defect::BadHeader { word: 0, value: 7 }),
-        (
-            &[(0, 7), (1, SECOND)],
-            Defect::BadHeader { word: 0, value: 7 },
-        ),
-        (
-            &[(1, third)],
-            Defect::BadHeader {
-                word: 1,
-                value: third,
-            },
-        ),
-        (
-            &[(1, TOO_SMALL)],
-            Defect::BadHeader {
-                word: 1,
-                value: TOO_SMALL,
-            },
-        ),
-        (&[(2054, 67600)], Defect::StrayRoot { root: 6, at: 67600 }),
-        (&[(2054, 67600), (2, 0)], Defect::BadDirectory { value: 0 }),
-    ];
-    for (changes, defect) in rows {
+    for &(changes, defect) in &CHANGES {
         same(
             &rt,
             &image_outcome(rt.alloc(), &ONE_BLOCK, changes)?,

@@ -6,7 +6,7 @@ use program_io::Kind;
 use trace_text::whole_number;
 
 /// What the words after the program's name ask for.
-#[derive(Clone, Copy, Debug, PartialEq, Eq)]
+#[derive(Clone, Copy)]
 pub enum Command {
     /// Run a trace and print its report.
     Replay,

@@ -1,8 +1,13 @@
 // What `image` has to say of its input, and the devices that it leaves.
-ghost use Rattle.std.specs.Prelude.{◌≡◌, ◌<◌, ◌^◌, length, IfOk, OnErr};
+ghost use Rattle.std.specs.Prelude.{◌≡◌, ◌<◌, ◌^◌, ◌++◌, length, IfOk, OnErr};
 ghost use Rattle.std.specs.List.{All};
+ghost use Rattle.pmem_lines.specs.Pmem.{words_of};
+ghost use Rattle.pool_layout.specs.Bytes.{bytes_of_words};
 ghost use Rattle.shared_pool.specs.Rows.{each_of};
 ghost use Rattle.trace_text.specs.Grammar.{pool_of, IsPool, IsTraceCall};
+ghost use Rattle.trace_runs.specs.Arenas.{header_for};
+ghost use Rattle.trace_runs.specs.Calls.{calls_of, IsArenaOf};
+ghost use Rattle.trace_runs.specs.Journals.{IsRunThrough};
 ghost use Rattle.nvheap.specs.Imaging.{AreRunThrough, images_of, imaging};
 ghost use Rattle.nvheap.specs.Ends.{IsAnswer};
 
@@ -65,13 +70,35 @@ fn run_arenas<H: Shelf>(
     let mut piece = new_piece(alloc)?;
     let mut devices = Vec::new(alloc);
     for arena in 0..trace.arenas {
-        let room = layout_of(trace.version).room;
-        let device = shelf.take(alloc, GRANULE_LINES * trace.granules, room)?;
-        let device = run_calls(alloc, trace, arena, device)?;
-        add_bytes(&mut bytes, device.words(0, device.size_words()), &mut piece)?;
+        let device = run_arena(alloc, trace, arena, shelf, &mut bytes, &mut piece)?;
         devices.push(device)?;
     }
     Ok(Images { bytes, devices })
+}
+
+// Makes the calls of a trace on the arena of this number, over a device of the shelf, and adds the bytes of its words to others.
+fn run_arena<H: Shelf>(
+    alloc: Global,
+    trace: &Trace,
+    arena: u32,
+    shelf: &mut H,
+    bytes: &mut Vec<u8>,
+    piece: &mut [u8],
+) -> Result<H::Device, OutOfMemory>
+    requires arena { IsArenaOf (pool_of trace.now) trace.now.calls.items arena }
+    requires few { length trace.now.calls.items < 2 ^ 32 }
+    requires piece { length piece.old ≡ 4096 }
+    ensures run { IfOk result (λ left. IsRunThrough (header_for (pool_of trace.now) arena) (calls_of arena trace.now.calls.items) (H.Device.state left)) }
+    ensures bytes { IfOk result (λ left. bytes.new.items ≡ bytes.old.items ++ bytes_of_words (words_of (H.Device.state left))) }
+    ensures piece { length piece.new ≡ 4096 }
+    ensures places { H.places shelf.new ≡ H.places shelf.old }
+    ensures images { H.images shelf.new ≡ H.images shelf.old }
+{
+    let room = layout_of(trace.version).room;
+    let device = shelf.take(alloc, GRANULE_LINES * trace.granules, room)?;
+    let left = run_calls(alloc, trace, arena, device)?;
+    add_bytes(bytes, left.words(0, left.size_words()), piece)?;
+    Ok(left)
 }
 
 // How many bytes the image of a trace's pool has.

@@ -107,7 +107,12 @@ fn reopen<P: Pmem + Drop>(alloc: Global, device: P) -> Result<Dict<P>, OutOfMemo
     };
     match Dict::open(alloc, arena) {
         Ok(dict) => Ok(dict),
-        Err((OpenFault::Memory(fault), _)) => Err(fault),
-        Err((OpenFault::NotDict { .. }, _)) => unreachable!(),
+        Err((fault, arena)) => {
+            drop(arena);
+            match fault {
+                OpenFault::Memory(fault) => Err(fault),
+                OpenFault::NotDict { .. } => unreachable!(),
+            }
+        }
     }
 }

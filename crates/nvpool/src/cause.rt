@@ -7,7 +7,7 @@ use pool_layout::Defect;
 use trace_text::{Refusal, write_bytes, write_defect, write_refusal, write_word};
 
 /// Why a command refuses its input.
-#[derive(Clone, Copy, Debug, PartialEq, Eq)]
+#[derive(Clone, Copy)]
 pub enum Cause {
     /// A text, by its lines or by what is asked of it.
     Text(Refusal),

@@ -13,26 +13,27 @@ fn exact_images(rt: HostRuntime) -> Result<(), Fail> {
     all_become(&rt, rt.alloc(), &IN_TRANSITION, &[(&[], &[], 0)])
 }
 
+const ENTRIES: [Row; 3] = [
+    (
+        &[(64, 290271070060545), (8200, 0)],
+        &[(64, 0), (8200, 1)],
+        6,
+    ),
+    (
+        &[(64, 290271070060545), (2053, 0)],
+        &[(64, 0), (8200, 0), (6160, 1027)],
+        9,
+    ),
+    (
+        &[(64, 38655033349), (2057, 67584)],
+        &[(64, 0), (2053, 0)],
+        6,
+    ),
+];
+
 #[test]
 fn open_entries(rt: HostRuntime) -> Result<(), Fail> {
-    let rows: [Row; 3] = [
-        (
-            &[(64, 290271070060545), (8200, 0)],
-            &[(64, 0), (8200, 1)],
-            6,
-        ),
-        (
-            &[(64, 290271070060545), (2053, 0)],
-            &[(64, 0), (8200, 0), (6160, 1027)],
-            9,
-        ),
-        (
-            &[(64, 38655033349), (2057, 67584)],
-            &[(64, 0), (2053, 0)],
-            6,
-        ),
-    ];
-    all_become(&rt, rt.alloc(), &ONE_BLOCK, &rows)
+    all_become(&rt, rt.alloc(), &ONE_BLOCK, &ENTRIES)
 }
 
 // The arena has the block of root 5, or none, and gives root 6 the lowest free block of class 6.
@@ -58,30 +59,31 @@ fn arena_goes_on(rt: HostRuntime) -> Result<(), Fail> {
     Ok(())
 }
 
+const CHANGES: [Row; 5] = [
+    (&[], &[], 0),
+    (
+        &[(64, 0x0003_4800_3fff_0001), (26632, 0)],
+        &[(64, 0), (26632, 1)],
+        6,
+    ),
+    (
+        &[(64, 0x0003_4800_3fff_0001), (18431, 0)],
+        &[(64, 0), (26632, 0), (18448, 3331)],
+        9,
+    ),
+    (
+        &[(64, 0x0009_3fff_0005), (2057, 215_040)],
+        &[(64, 0), (18431, 0)],
+        6,
+    ),
+    (&[(18448, 33558785)], &[(18456, 4355)], 3),
+];
+
 // An arena of version 2: it is exact; its block is coming, going or moving; and there is a large extent that no root names. Its
 // log has the second entry on the second line.
 #[test]
 fn of_version_2(rt: HostRuntime) -> Result<(), Fail> {
-    let rows: [Row; 5] = [
-        (&[], &[], 0),
-        (
-            &[(64, 0x0003_4800_3fff_0001), (26632, 0)],
-            &[(64, 0), (26632, 1)],
-            6,
-        ),
-        (
-            &[(64, 0x0003_4800_3fff_0001), (18431, 0)],
-            &[(64, 0), (26632, 0), (18448, 3331)],
-            9,
-        ),
-        (
-            &[(64, 0x0009_3fff_0005), (2057, 215_040)],
-            &[(64, 0), (18431, 0)],
-            6,
-        ),
-        (&[(18448, 33558785)], &[(18456, 4355)], 3),
-    ];
-    all_become(&rt, rt.alloc(), &SECOND_VERSION, &rows)?;
+    all_become(&rt, rt.alloc(), &SECOND_VERSION, &CHANGES)?;
     same(
         &rt,
         &recovered(rt.alloc(), &SECOND_VERSION, &[(18430, 215_040)], &[])?,

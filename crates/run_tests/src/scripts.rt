@@ -96,11 +96,6 @@ $2 dict-crash 148 0
 no event 148 of 147
 ";
 
-#[test]
-fn worked_scripts(rt: HostRuntime) -> Result<(), Fail> {
-    all_end_and_write(&rt, rt.alloc(), WORKED)
-}
-
 const REFUSED: &str = "dict 15
 $2 dict, dict-crash 0 0
 bad line 1
@@ -127,11 +122,6 @@ $2 replay, serve
 bad line 1
 ";
 
-#[test]
-fn refused_scripts(rt: HostRuntime) -> Result<(), Fail> {
-    all_end_and_write(&rt, rt.alloc(), REFUSED)
-}
-
 // Each root but the stage gets a key. No put finds a root then, not even of a key that is there, until a key goes.
 const EVERY_ROOT: &str = "dict 16
 put {2048..4095}
@@ -156,8 +146,11 @@ size 4095
 ";
 
 #[test]
-fn a_key_for_every_root(rt: HostRuntime) -> Result<(), Fail> {
-    all_end_and_write(&rt, rt.alloc(), EVERY_ROOT)
+fn worked_scripts(rt: HostRuntime) -> Result<(), Fail> {
+    for table in [WORKED, REFUSED, EVERY_ROOT] {
+        all_end_and_write(&rt, rt.alloc(), table)?;
+    }
+    Ok(())
 }
 
 // A value has 509 words at most, for which a star stands here.
@@ -174,11 +167,6 @@ put 7* 1
 $2 dict
 bad line 2
 ";
-
-#[test]
-fn the_longest_value(rt: HostRuntime) -> Result<(), Fail> {
-    all_end_and_write(&rt, rt.alloc(), &with_longest(rt.alloc(), LONGEST)?)
-}
 
 // Each of three slabs holds 15 of the longest values. Then there is no space for a pair, not even of a key that is there or of no
 // word, until a key goes.
@@ -206,8 +194,12 @@ size 45
 ";
 
 #[test]
-fn no_space_for_a_pair(rt: HostRuntime) -> Result<(), Fail> {
-    all_end_and_write(&rt, rt.alloc(), &with_longest(rt.alloc(), NO_SPACE)?)
+fn the_longest_values(rt: HostRuntime) -> Result<(), Fail> {
+    for table in [LONGEST, NO_SPACE] {
+        let table = with_longest(rt.alloc(), table)?;
+        all_end_and_write(&rt, rt.alloc(), &table)?;
+    }
+    Ok(())
 }
 
 // A table in which each star stands for the words of a longest value.

@@ -100,9 +100,18 @@ pub(crate) fn close_told<R: Wait, P: Pmem + Drop>(
     ensures { IfOk result (λ closed. AllAnswer by_owner calls.now 0 (map (λ (l : Lock). l.opening) server.pool.locks) (each_of closed.items (λ c. (c.journal.items, c.arena)))) }
 {
     let _calls = calls;
-    let (owners, notes) = part_clerks(alloc, clerks)?;
+    let (owners, notes) = match part_clerks(alloc, clerks) {
+        Ok((owners, notes)) => (owners, notes),
+        Err(fault) => {
+            drop(server);
+            return Err(fault);
+        }
+    };
     match server.close(rt, alloc, senders, owners) {
         Ok(desks) => sign_all(alloc, desks, notes),
-        Err((fault, _server, _senders, _owners)) => Err(fault),
+        Err((fault, server, _senders, _owners)) => {
+            drop(server);
+            Err(fault)
+        }
     }
 }

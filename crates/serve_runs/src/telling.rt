@@ -23,15 +23,33 @@ pub(crate) fn tell_all<P: Pmem + Drop>(
     let mut number: u32 = 0;
     while !closed.is_empty() {
         let one = closed.remove(0);
-        tell_one(alloc, &mut text, number, &one)?;
-        devices.push(one.arena.into_pmem())?;
+        let device = tell_one(alloc, &mut text, number, one)?;
+        devices.push(device)?;
         number += 1;
     }
     Ok(Told { text, devices })
 }
 
-// Writes the report of one arena behind what stands in a text.
+// Writes the report of one arena behind what stands in a text, and gives the arena's device.
 fn tell_one<P: Pmem + Drop>(
+    alloc: Global,
+    text: &mut Vec<u8>,
+    number: u32,
+    closed: ClosedArena<P>,
+) -> Result<P, OutOfMemory>
+    ensures text { OnOk result (text.new.items ≡ text.old.items ++ closed_text arena_text number (closed.journal.items, closed.arena)) }
+    ensures device { IfOk result (λ d. P.state d ≡ closed.arena.device) }
+{
+    let told = tell(alloc, text, number, &closed);
+    let device = closed.arena.into_pmem();
+    match told {
+        Ok(()) => Ok(device),
+        Err(fault) => Err(fault),
+    }
+}
+
+// Writes the report of one arena behind what stands in a text.
+fn tell<P: Pmem>(
     alloc: Global,
     text: &mut Vec<u8>,
     number: u32,

@@ -113,7 +113,10 @@ fn serve_calls<R: Threads + Wait + Sync, P: Pmem + Drop + Send, G: Gate + Sync>(
     };
     match clerks_of(alloc, owners, calls) {
         Ok(clerks) => serve_opened(rt, alloc, server, senders, clerks, calls, gate),
-        Err(fault) => Err(fault),
+        Err(fault) => {
+            drop(server);
+            Err(fault)
+        }
     }
 }
 
@@ -149,6 +152,9 @@ fn serve_opened<R: Threads + Wait + Sync, P: Pmem + Drop + Send, G: Gate + Sync>
         gate,
     ) {
         Ok(()) => close_told(rt, alloc, server, senders, clerks, calls),
-        Err(fault) => Err(fault),
+        Err(fault) => {
+            drop(server);
+            Err(fault)
+        }
     }
 }

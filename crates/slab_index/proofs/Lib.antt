@@ -1,8 +1,10 @@
 pub mod Common
+pub mod Counted
 pub mod Firsts
 pub mod Fresh
 pub mod Lowest
 pub mod Marks
+pub mod Noting
 pub mod Others
 pub mod Searches
 pub mod Steps

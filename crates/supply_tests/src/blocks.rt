@@ -3,7 +3,7 @@ ghost use Rattle.std.specs.Prelude.{◌≡◌, ℕ, None};
 ghost use Rattle.slab_index.specs.SlabSet.{class_in};
 
 use crate::values::same;
-use slab_index::{LiveCounts, SlabBlock, SlabIndex};
+use slab_index::{SlabBlock, SlabCounts, SlabIndex};
 use std::process::Abort;
 use std::test::Fail;
 
@@ -70,7 +70,7 @@ fn adds_the_last_slab<R: Abort>(rt: &R, index: &mut SlabIndex)
 // A count of the live blocks of that slab.
 #[test]
 fn lives_of_the_largest_arena(rt: HostRuntime) -> Result<(), Fail> {
-    let mut lives = LiveCounts::new(rt.alloc(), 1024)?;
+    let mut lives = SlabCounts::new(rt.alloc(), 1024)?;
     same(&rt, &lives.at(1020), &0);
     lives.raise(1020);
     same(

@@ -71,40 +71,41 @@ fn used_of(alloc: Global, marks: &[Span], clears: &[Span]) -> Result<Vec<Span>, 
     used(alloc, &units)
 }
 
+const SPANS: [(&[Span], &[Span], &[Span]); 12] = [
+    (&[], &[Span(0, 16384)], &[]),
+    (&[Span(70, 0)], &[], &[]),
+    (&[Span(5, 3)], &[], &[Span(5, 3)]),
+    (&[Span(60, 10)], &[], &[Span(60, 10)]),
+    (&[Span(64, 128)], &[], &[Span(64, 128)]),
+    (
+        &[Span(0, 1), Span(63, 1), Span(64, 1)],
+        &[],
+        &[Span(0, 1), Span(63, 2)],
+    ),
+    (&[Span(16383, 1)], &[], &[Span(16383, 1)]),
+    (&[Span(4234, 1024)], &[], &[Span(4234, 1024)]),
+    (
+        &[Span(0, 256)],
+        &[Span(10, 100)],
+        &[Span(0, 10), Span(110, 146)],
+    ),
+    (
+        &[Span(128, 192)],
+        &[Span(128, 64), Span(319, 1)],
+        &[Span(192, 127)],
+    ),
+    (
+        &[Span(100, 50), Span(120, 100)],
+        &[Span(90, 20)],
+        &[Span(110, 110)],
+    ),
+    (&[Span(0, 16384)], &[Span(64, 0)], &[Span(0, 16384)]),
+];
+
 // Marked, cleared, and what is used then: within a word, over the ends of words, whole words, and the first and last units.
 #[test]
 fn exactly_these(rt: HostRuntime) -> Result<(), Fail> {
-    let rows: [(&[Span], &[Span], &[Span]); 12] = [
-        (&[], &[Span(0, 16384)], &[]),
-        (&[Span(70, 0)], &[], &[]),
-        (&[Span(5, 3)], &[], &[Span(5, 3)]),
-        (&[Span(60, 10)], &[], &[Span(60, 10)]),
-        (&[Span(64, 128)], &[], &[Span(64, 128)]),
-        (
-            &[Span(0, 1), Span(63, 1), Span(64, 1)],
-            &[],
-            &[Span(0, 1), Span(63, 2)],
-        ),
-        (&[Span(16383, 1)], &[], &[Span(16383, 1)]),
-        (&[Span(4234, 1024)], &[], &[Span(4234, 1024)]),
-        (
-            &[Span(0, 256)],
-            &[Span(10, 100)],
-            &[Span(0, 10), Span(110, 146)],
-        ),
-        (
-            &[Span(128, 192)],
-            &[Span(128, 64), Span(319, 1)],
-            &[Span(192, 127)],
-        ),
-        (
-            &[Span(100, 50), Span(120, 100)],
-            &[Span(90, 20)],
-            &[Span(110, 110)],
-        ),
-        (&[Span(0, 16384)], &[Span(64, 0)], &[Span(0, 16384)]),
-    ];
-    for (marks, clears, want) in rows {
+    for &(marks, clears, want) in &SPANS {
         let spans = used_of(rt.alloc(), marks, clears)?;
         assert_eq!(rt; spans.as_slice(), want, "of {marks:?} without {clears:?}");
     }

@@ -121,9 +121,18 @@ pub fn run_trace<R: Threads + Wait + Sync, P: Pmem + Drop + Send, G: Gate + Sync
         Ok(started) => started,
         Err((error, _arenas)) => return Err(error),
     };
-    let lengths = work_counted(rt, alloc, &pool, passes.as_mut_slice(), calls, many, gate)?;
+    let lengths = match work_counted(rt, alloc, &pool, passes.as_mut_slice(), calls, many, gate) {
+        Ok(lengths) => lengths,
+        Err(error) => {
+            drop(pool);
+            return Err(error);
+        }
+    };
     match pool.close(alloc, passes) {
         Ok(closed) => Ok(Ended { lengths, closed }),
-        Err((error, _pool, _passes)) => Err(error),
+        Err((error, pool, _passes)) => {
+            drop(pool);
+            Err(error)
+        }
     }
 }

@@ -39,8 +39,8 @@ pub(crate) fn tell_all<P: Pmem + Drop>(
     while !closed.is_empty() {
         let one = closed.remove(0);
         let count = take_length(account, &mut lengths, &one.journal);
-        tell_one(alloc, account, &mut text, number, count, &one)?;
-        devices.push(one.arena.into_pmem())?;
+        let device = tell_one(alloc, account, &mut text, number, count, one)?;
+        devices.push(device)?;
         number += 1;
     }
     Ok(Told { text, devices })
@@ -58,8 +58,29 @@ fn take_length(account: Account, lengths: &mut Vec<u64>, journal: &[Entry]) -> u
     }
 }
 
-// Writes what is told of one arena behind what stands in a text, by the length of its journal.
+// Writes what is told of one arena behind what stands in a text, by the length of its journal, and gives the arena's device.
 fn tell_one<P: Pmem + Drop>(
+    alloc: Global,
+    account: Account,
+    text: &mut Vec<u8>,
+    number: u32,
+    count: u64,
+    closed: ClosedArena<P>,
+) -> Result<P, OutOfMemory>
+    requires { count ≡ length closed.journal.items }
+    ensures text { OnOk result (text.new.items ≡ text.old.items ++ closed_text (telling_of account) number (closed.journal.items, closed.arena)) }
+    ensures device { IfOk result (λ d. P.state d ≡ closed.arena.device) }
+{
+    let told = tell(alloc, account, text, number, count, &closed);
+    let device = closed.arena.into_pmem();
+    match told {
+        Ok(()) => Ok(device),
+        Err(fault) => Err(fault),
+    }
+}
+
+// Writes what is told of one arena behind what stands in a text, by the length of its journal.
+fn tell<P: Pmem>(
     alloc: Global,
     account: Account,
     text: &mut Vec<u8>,

@@ -1,5 +1,5 @@
 -- A slab in Morphing comes to its class: the images.
-use Rattle.std.proofs.Common.{◌≡◌, ◌⊎◌, ℕ, true, List, refl, sym, ap, subst, ◌∙◌, inl, inr, ⊎_elim}
+use Rattle.std.proofs.Common.{◌≡◌, ℕ, true, List, refl, sym, ap, subst, ◌∙◌, inl, inr, ⊎_elim}
 use Rattle.transition_steps.proofs.Common.{morphing_kind, Tables, is_slab, AreSlabsInHeap, tables_of, SlabHeader, put_header, heap, IsSound, IsSteady, bounds_of, Bounds, header_at, finished, IsFinishStage, AllHoldSame, KeepsHeld, IsValidHeader, IsOnItsWay}
 use Rattle.settle_steps.specs.Settled.{KeepsHeap}
 use Rattle.transition_steps.specs.Transitions.{IsInMorphing, LoosensDone, IsFinished}

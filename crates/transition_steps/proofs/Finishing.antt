@@ -1,5 +1,5 @@
 -- A slab in Morphing comes to its class: what the tables say at each stage.
-use Rattle.std.proofs.Common.{◌≡◌, ◌≢◌, ◌⊎◌, ◌<◌, ℕ, Bool, refl, sym, ap, subst, ◌∙◌, arith, inl, inr, ⊎_elim, Option, Some, None}
+use Rattle.std.proofs.Common.{◌≡◌, ◌≢◌, ◌⊎◌, ℕ, Bool, refl, sym, ap, subst, ◌∙◌, arith, inl, inr, ⊎_elim, Option, Some, None}
 use Rattle.transition_steps.proofs.Common.{cases_eq, WalEntry, morphing_kind, morphed_kind, Tables, SlabHeader, put_header, put_header-same, Bounds, heap, IsValidSlab, IsMorphing, IsDoneSlab, IsNearlyDone, IsSound, IsSteady, AllHoldSame}
 use Rattle.heap_check.proofs.Loose.{AtMostOne-fewer, IsSpent, nearly_spent, spent_nearly, nearly_done}
 use Rattle.heap_check.proofs.SameSlabs.{IsMorphing-same, IsDoneSlab-same, IsNearlyDone-same}

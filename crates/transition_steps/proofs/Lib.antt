@@ -7,3 +7,7 @@ pub mod Finishing
 pub mod FinishImages
 pub mod Ending
 pub mod EndImages
+pub mod ClassTables
+pub mod ClassImages
+pub mod HeldCounts
+pub mod Fits

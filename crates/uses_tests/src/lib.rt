@@ -5,3 +5,5 @@
 
 #[cfg(test)]
 mod stacks;
+#[cfg(test)]
+mod values;

@@ -1,4 +1,5 @@
 // A stack's calls, and a push that is stopped at every event.
+use crate::values::same;
 use arena_core::{Arena, ArenaRoom};
 use pmem_lines::{OutOfMemory, Pmem, SimPmem};
 use rand_core::SeedableRng;
@@ -47,16 +48,21 @@ fn over(arena: Arena<SimPmem>) -> Result<RecordStack<SimPmem>, Fail> {
 // prove: so it is lent to the calls that are tested, here and below.
 fn come_and_go<R: Abort>(rt: &R, stack: &mut RecordStack<SimPmem>) -> Result<(), Fail> {
     assert!(rt; stack.is_empty());
-    assert_eq!(rt; stack.pop(), Err(PopRefusal::Empty));
+    same(rt, &stack.pop(), &Err(PopRefusal::Empty));
     assert!(rt; stack.top().is_none());
     stack.push(&LOW)?;
     stack.push(&HIGH)?;
-    assert_eq!(rt; stack.len(), 2);
-    assert_eq!(rt; stack.top().ok_or("no record")?, HIGH.as_slice());
+    go_again(rt, stack)
+}
+
+// The one that came last goes first.
+fn go_again<R: Abort>(rt: &R, stack: &mut RecordStack<SimPmem>) -> Result<(), Fail> {
+    same(rt, &stack.len(), &2);
+    same(rt, &stack.top(), &Some(HIGH.as_slice()));
     stack.pop()?;
-    assert_eq!(rt; stack.top().ok_or("no record")?, LOW.as_slice());
+    same(rt, &stack.top(), &Some(LOW.as_slice()));
     stack.pop()?;
-    assert_eq!(rt; stack.len(), 0);
+    same(rt, &stack.len(), &0);
     Ok(())
 }
 
@@ -78,9 +84,9 @@ fn fills<R: Abort>(
     for _ in 0..records {
         stack.push(&LOW)?;
     }
-    assert_eq!(rt; stack.push(&HIGH), Err(refusal));
-    assert_eq!(rt; stack.len(), records);
-    assert_eq!(rt; stack.top().ok_or("no record")?, LOW.as_slice());
+    same(rt, &stack.push(&HIGH), &Err(refusal));
+    same(rt, &stack.len(), &records);
+    same(rt, &stack.top(), &Some(LOW.as_slice()));
     Ok(())
 }
 

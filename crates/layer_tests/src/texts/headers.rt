@@ -52,35 +52,36 @@ fn fields(version: u16, number: u16, granules: u16, arenas: u16) -> u64 {
         | u64::from(arenas) << 48
 }
 
+const HEADERS: [(u16, u16, u16, u16, bool); 23] = [
+    (0, 0, 16, 1, false),
+    (1, 0, 15, 1, false),
+    (1, 0, 16, 1, true),
+    (1, 15, 1024, 16, true),
+    (1, 16, 1024, 16, false),
+    (1, 0, 1025, 1, false),
+    (1, 0, 16, 0, false),
+    (1, 0, 16, 17, false),
+    (2, 0, 24, 1, false),
+    (2, 0, 25, 1, true),
+    (2, 15, 25, 16, true),
+    (2, 16, 25, 16, false),
+    (2, 0, 25, 17, false),
+    (2, 0, 4096, 1, true),
+    (2, 3, 4096, 4, true),
+    (2, 0, 4097, 1, false),
+    (2, 0, 4096, 5, false),
+    (2, 15, 1033, 16, true),
+    (2, 0, 1034, 16, false),
+    (2, 4, 3305, 5, true),
+    (2, 4, 3306, 5, false),
+    (3, 0, 25, 1, false),
+    (258, 0, 25, 1, false),
+];
+
 // Whether a pool may have this version, this arena, so many granules in each, and so many arenas.
 #[test]
 fn headers_of_both_versions(rt: HostRuntime) {
-    let rows = [
-        (0, 0, 16, 1, false),
-        (1, 0, 15, 1, false),
-        (1, 0, 16, 1, true),
-        (1, 15, 1024, 16, true),
-        (1, 16, 1024, 16, false),
-        (1, 0, 1025, 1, false),
-        (1, 0, 16, 0, false),
-        (1, 0, 16, 17, false),
-        (2, 0, 24, 1, false),
-        (2, 0, 25, 1, true),
-        (2, 15, 25, 16, true),
-        (2, 16, 25, 16, false),
-        (2, 0, 25, 17, false),
-        (2, 0, 4096, 1, true),
-        (2, 3, 4096, 4, true),
-        (2, 0, 4097, 1, false),
-        (2, 0, 4096, 5, false),
-        (2, 15, 1033, 16, true),
-        (2, 0, 1034, 16, false),
-        (2, 4, 3305, 5, true),
-        (2, 4, 3306, 5, false),
-        (3, 0, 25, 1, false),
-        (258, 0, 25, 1, false),
-    ];
-    for (version, number, granules, arenas, is_good) in rows {
+    for &(version, number, granules, arenas, is_good) in &HEADERS {
         let value = fields(version, number, granules, arenas);
         let header = PoolHeader {
             version: u32::from(version),

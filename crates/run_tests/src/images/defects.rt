@@ -16,11 +16,6 @@ a move from a root that holds nothing to one that holds nothing | 16424: 0 0 0, 
 a move between roots with two addresses | 16456: 16 8 1, 512: 5 0 5 0 9 0 0 0 | arena 0 bad wal 0 38655033349
 ";
 
-#[test]
-fn of_one_block(rt: HostRuntime) -> Result<(), Fail> {
-    all_tell_of(&rt, rt.alloc(), 262144, &ONE_BLOCK, OF_ONE_BLOCK)
-}
-
 // Of several pairs the one with the lowest first root is named, and of those the one with the lowest second, whatever
 // the addresses are. Block 1 of the slab is at 67696. The block of an open entry counts as that of its root, which may
 // hold nothing.
@@ -37,18 +32,6 @@ const SHARED_IN_TRANSITION: &str =
 old blocks of roots 7 and 4, in this order, within root 2's block | 196611: 2, 197186: 17, 197248: 1 0 18, 16392: 0 0 0, 16416: 128 12 3, 16440: 64 12 3 | arena 0 shared block 2 4
 ";
 
-#[test]
-fn shared_blocks(rt: HostRuntime) -> Result<(), Fail> {
-    all_tell_of(&rt, rt.alloc(), 262144, &ONE_BLOCK, SHARED)?;
-    all_tell_of(
-        &rt,
-        rt.alloc(),
-        262144,
-        &IN_TRANSITION,
-        SHARED_IN_TRANSITION,
-    )
-}
-
 // A second slab stands at granule 8, and no root holds a block: both slabs are empty. In Morphing and once it is over
 // they have one index entry, which is dead.
 const LOOSE: &str =
@@ -58,6 +41,15 @@ two slabs that took another class, without an old block | 16424: 0 0 0, 49280: 2
 ";
 
 #[test]
-fn loose_things(rt: HostRuntime) -> Result<(), Fail> {
-    all_tell_of(&rt, rt.alloc(), 262144, &ONE_BLOCK, LOOSE)
+fn defects(rt: HostRuntime) -> Result<(), Fail> {
+    for table in [OF_ONE_BLOCK, SHARED, LOOSE] {
+        all_tell_of(&rt, rt.alloc(), 262144, &ONE_BLOCK, table)?;
+    }
+    all_tell_of(
+        &rt,
+        rt.alloc(),
+        262144,
+        &IN_TRANSITION,
+        SHARED_IN_TRANSITION,
+    )
 }

@@ -29,47 +29,38 @@ fn all_left<R: Abort + Threads + Wait + Sync>(
 
 // A block of 100 bytes at root 5: the header line, the root, the log's first entry, the state word, block 0's bit. All
 // else is 0, the first write-ahead line too.
-#[test]
-fn one_small_block(rt: HostRuntime) -> Result<(), Fail> {
-    let rows = [
-        (0, TEXT),
-        (8, 0x0001_0010_0000_0001),
-        (16, 1),
-        (24, 0),
-        (512, 0),
-        (576, 0),
-        (16416, 0),
-        (16424, 67584),
-        (16432, 0),
-        (49152, 0),
-        (49216, 0x0402),
-        (49280, 0),
-        (65536, 0x0601),
-        (65600, 1),
-        (65608, 0),
-        (65664, 0),
-        (67584, 0),
-    ];
-    all_left(&rt, rt.alloc(), TRACE, &rows)
-}
+const ONE_BLOCK: [(u32, u64); 17] = [
+    (0, TEXT),
+    (8, 0x0001_0010_0000_0001),
+    (16, 1),
+    (24, 0),
+    (512, 0),
+    (576, 0),
+    (16416, 0),
+    (16424, 67584),
+    (16432, 0),
+    (49152, 0),
+    (49216, 0x0402),
+    (49280, 0),
+    (65536, 0x0601),
+    (65600, 1),
+    (65608, 0),
+    (65664, 0),
+    (67584, 0),
+];
 
 // The bits of neighbours lie in different lines.
-#[test]
-fn two_small_blocks(rt: HostRuntime) -> Result<(), Fail> {
-    let rows = [(65600, 1), (65664, 1), (65728, 0)];
-    all_left(
-        &rt,
-        rt.alloc(),
-        "pool 1 16\n0 0 m 1 16\n0 0 m 2 16\n",
-        &rows,
-    )
-}
+const TWO_BLOCKS: [(u32, u64); 3] = [(65600, 1), (65664, 1), (65728, 0)];
 
 // A slab whose last block goes leaves the log: its entry, and behind it a Tomb.
+const GONE: [(u32, u64); 4] = [(16392, 0), (49216, 0x0402), (49280, 0x0403), (65600, 0)];
+
 #[test]
-fn a_slab_goes_back(rt: HostRuntime) -> Result<(), Fail> {
-    let rows = [(16392, 0), (49216, 0x0402), (49280, 0x0403), (65600, 0)];
-    all_left(&rt, rt.alloc(), "pool 1 16\n0 0 m 1 64\n0 0 f 1\n", &rows)
+fn small_blocks(rt: HostRuntime) -> Result<(), Fail> {
+    all_left(&rt, rt.alloc(), TRACE, &ONE_BLOCK)?;
+    let two = "pool 1 16\n0 0 m 1 16\n0 0 m 2 16\n";
+    all_left(&rt, rt.alloc(), two, &TWO_BLOCKS)?;
+    all_left(&rt, rt.alloc(), "pool 1 16\n0 0 m 1 64\n0 0 f 1\n", &GONE)
 }
 
 // A shelf that drops what is put serves as well, for the device behind a trace's calls and for one that is recovered.

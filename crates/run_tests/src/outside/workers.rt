@@ -90,11 +90,7 @@ fn at_the_same_time<R: Abort + Threads + Wait + Sync>(
 }
 
 #[test]
-fn workers_at_the_same_time(rt: HostRuntime) -> Result<(), Fail> {
-    at_the_same_time(&rt, rt.alloc(), "replay", false)
-}
-
-#[test]
-fn senders_at_the_same_time(rt: HostRuntime) -> Result<(), Fail> {
+fn two_threads_at_the_same_time(rt: HostRuntime) -> Result<(), Fail> {
+    at_the_same_time(&rt, rt.alloc(), "replay", false)?;
     at_the_same_time(&rt, rt.alloc(), "serve", true)
 }

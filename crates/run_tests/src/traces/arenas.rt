@@ -25,33 +25,34 @@ heap 1
 1 182272 224
 ";
 
+const ROWS: [(&str, u8, &str); 13] = [
+    ("replay", 0, REPORT),
+    ("serve", 0, REPORT),
+    ("crash 0 0 0", 0, "call 1 before\nheap 0\n"),
+    ("crash 0 89 0", 0, "call 1 after\nheap 1\n0 67584 4096\n"),
+    (
+        "crash 0 95 0",
+        0,
+        "call 2 after\nheap 2\n0 67584 4096\n1 131072 32768\n",
+    ),
+    ("crash 0 96 0", 2, "no event 96 of 95\n"),
+    ("crash 1 0 0", 0, "call 1 before\nheap 0\n"),
+    ("crash 1 6 0", 0, "call 1 after\nheap 1\n0 65536 114688\n"),
+    (
+        "crash 1 95 0",
+        0,
+        "call 2 after\nheap 2\n0 65536 114688\n1 182272 224\n",
+    ),
+    ("crash 1 101 0", 0, "call 3 after\nheap 1\n1 182272 224\n"),
+    ("crash 1 102 0", 2, "no event 102 of 101\n"),
+    ("crash 2 0 0", 2, "no arena 2 of 2\n"),
+    ("crash 15 999 0", 2, "no arena 15 of 2\n"),
+];
+
 // Events and calls are counted by arena. Arena 0 has 89 events and 6, arena 1 has 6, 89 and 6.
 #[test]
 fn two_arenas(rt: HostRuntime) -> Result<(), Fail> {
-    let rows = [
-        ("replay", 0, REPORT),
-        ("serve", 0, REPORT),
-        ("crash 0 0 0", 0, "call 1 before\nheap 0\n"),
-        ("crash 0 89 0", 0, "call 1 after\nheap 1\n0 67584 4096\n"),
-        (
-            "crash 0 95 0",
-            0,
-            "call 2 after\nheap 2\n0 67584 4096\n1 131072 32768\n",
-        ),
-        ("crash 0 96 0", 2, "no event 96 of 95\n"),
-        ("crash 1 0 0", 0, "call 1 before\nheap 0\n"),
-        ("crash 1 6 0", 0, "call 1 after\nheap 1\n0 65536 114688\n"),
-        (
-            "crash 1 95 0",
-            0,
-            "call 2 after\nheap 2\n0 65536 114688\n1 182272 224\n",
-        ),
-        ("crash 1 101 0", 0, "call 3 after\nheap 1\n1 182272 224\n"),
-        ("crash 1 102 0", 2, "no event 102 of 101\n"),
-        ("crash 2 0 0", 2, "no arena 2 of 2\n"),
-        ("crash 15 999 0", 2, "no arena 15 of 2\n"),
-    ];
-    all_tell(&rt, rt.alloc(), TWO.as_bytes(), &rows)
+    all_tell(&rt, rt.alloc(), TWO.as_bytes(), &ROWS)
 }
 
 // Arena 1 has no call.

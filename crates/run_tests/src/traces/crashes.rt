@@ -21,11 +21,6 @@ $93..96 call 2 before, 5 67584 112 | call 2 after
 $97..103 call 2 after
 ";
 
-#[test]
-fn in_small_calls(rt: HostRuntime) -> Result<(), Fail> {
-    all_leave(&rt, rt.alloc(), "crash 0", "heap", SMALL_CALLS, 3)
-}
-
 // The last malloc finds the log full. Behind the 12 events of each of 60 pairs it has 139 that make room and 3 that put
 // the entry into the log; event 863 stores the root, and 865 is its fence. The free stores it by event 866, and fences
 // by 868.
@@ -83,11 +78,6 @@ $183..184 call 3 before, 0 65536 131072, 1 198656 64 | call 3 after, 0 65536 131
 $185..188 call 3 after, 0 65536 131072, 1 198656 64, 2 199680 1024
 ";
 
-#[test]
-fn where_a_slab_takes_a_class(rt: HostRuntime) -> Result<(), Fail> {
-    all_leave(&rt, rt.alloc(), "crash 0", "heap", TAKES_A_CLASS, 8)
-}
-
 // The free of the old block opens its entry by events 189 to 191, stores and flushes the root and then the index entry, and
 // its fence is event 196. By 199 the entry is closed, and by 202 the slab is normal.
 const OLD_BLOCK_GOES: &str = "pool 1 16
@@ -102,6 +92,9 @@ $196..202 call 4 after, 0 65536 131072, 2 199680 1024
 ";
 
 #[test]
-fn where_the_last_old_block_goes(rt: HostRuntime) -> Result<(), Fail> {
-    all_leave(&rt, rt.alloc(), "crash 0", "heap", OLD_BLOCK_GOES, 8)
+fn in_small_calls(rt: HostRuntime) -> Result<(), Fail> {
+    for (table, seeds) in [(SMALL_CALLS, 3), (TAKES_A_CLASS, 8), (OLD_BLOCK_GOES, 8)] {
+        all_leave(&rt, rt.alloc(), "crash 0", "heap", table, seeds)?;
+    }
+    Ok(())
 }

@@ -167,74 +167,76 @@ fn all_end_so<R: Abort>(rt: &R, alloc: Global, version: u16, rows: &[Row]) -> Re
     Ok(())
 }
 
+const WAYS: [Row; 7] = [
+    (&TWO_EACH, 120, Rolled::Nothing, 0, 1),
+    (
+        &TWO_EACH,
+        121,
+        Rolled::Rolled { dropped: None },
+        139,
+        0x0201,
+    ),
+    (&TWO_EACH, 960, Rolled::Nothing, 0, 0x0807_0605_0403_0201),
+    (&TWO_EACH, 961, Rolled::Rewritten { chunks: 1 }, 139, 9),
+    (
+        &TWENTY_EACH,
+        961,
+        Rolled::Rewritten { chunks: 2 },
+        274,
+        0x0a09,
+    ),
+    (
+        &MANY_EACH,
+        961,
+        Rolled::Rewritten { chunks: 5 },
+        679,
+        0x000d_0c0b_0a09,
+    ),
+    (
+        &AGAIN,
+        361,
+        Rolled::Rolled { dropped: Some(0) },
+        139,
+        0x0004_0302,
+    ),
+];
+
 // A chunk has 120 entries. A roll has 139 events, and a rewrite into m chunks 135 m + 4.
 #[test]
 fn ways_of_version_1(rt: HostRuntime) -> Result<(), Fail> {
-    let rows: [Row; 7] = [
-        (&TWO_EACH, 120, Rolled::Nothing, 0, 1),
-        (
-            &TWO_EACH,
-            121,
-            Rolled::Rolled { dropped: None },
-            139,
-            0x0201,
-        ),
-        (&TWO_EACH, 960, Rolled::Nothing, 0, 0x0807_0605_0403_0201),
-        (&TWO_EACH, 961, Rolled::Rewritten { chunks: 1 }, 139, 9),
-        (
-            &TWENTY_EACH,
-            961,
-            Rolled::Rewritten { chunks: 2 },
-            274,
-            0x0a09,
-        ),
-        (
-            &MANY_EACH,
-            961,
-            Rolled::Rewritten { chunks: 5 },
-            679,
-            0x000d_0c0b_0a09,
-        ),
-        (
-            &AGAIN,
-            361,
-            Rolled::Rolled { dropped: Some(0) },
-            139,
-            0x0004_0302,
-        ),
-    ];
-    all_end_so(&rt, rt.alloc(), 1, &rows)
+    all_end_so(&rt, rt.alloc(), 1, &WAYS)
 }
+
+const WAYS_2: [Row; 7] = [
+    (&TWO_EACH, 504, Rolled::Nothing, 0, 1),
+    (
+        &TWO_EACH,
+        505,
+        Rolled::Rolled { dropped: None },
+        571,
+        0x0201,
+    ),
+    (&TWO_EACH, 4032, Rolled::Nothing, 0, 0x0807_0605_0403_0201),
+    (&TWO_EACH, 4033, Rolled::Rewritten { chunks: 1 }, 571, 9),
+    (&TWENTY_EACH, 4033, Rolled::Rewritten { chunks: 1 }, 571, 9),
+    (
+        &MANY_EACH,
+        4033,
+        Rolled::Rewritten { chunks: 2 },
+        1138,
+        0x0a09,
+    ),
+    (
+        &AGAIN,
+        1513,
+        Rolled::Rolled { dropped: Some(0) },
+        571,
+        0x0004_0302,
+    ),
+];
 
 // A chunk has 504 entries. A roll has 571 events, and a rewrite into m chunks 567 m + 4: 504 live extents need a second chunk.
 #[test]
 fn ways_of_version_2(rt: HostRuntime) -> Result<(), Fail> {
-    let rows: [Row; 7] = [
-        (&TWO_EACH, 504, Rolled::Nothing, 0, 1),
-        (
-            &TWO_EACH,
-            505,
-            Rolled::Rolled { dropped: None },
-            571,
-            0x0201,
-        ),
-        (&TWO_EACH, 4032, Rolled::Nothing, 0, 0x0807_0605_0403_0201),
-        (&TWO_EACH, 4033, Rolled::Rewritten { chunks: 1 }, 571, 9),
-        (&TWENTY_EACH, 4033, Rolled::Rewritten { chunks: 1 }, 571, 9),
-        (
-            &MANY_EACH,
-            4033,
-            Rolled::Rewritten { chunks: 2 },
-            1138,
-            0x0a09,
-        ),
-        (
-            &AGAIN,
-            1513,
-            Rolled::Rolled { dropped: Some(0) },
-            571,
-            0x0004_0302,
-        ),
-    ];
-    all_end_so(&rt, rt.alloc(), 2, &rows)
+    all_end_so(&rt, rt.alloc(), 2, &WAYS_2)
 }

@@ -98,37 +98,38 @@ fn fit_on(device: &mut SimPmem, own: u8, count: u32, class: u8) -> Option<bool>
     is_fit(device, class)
 }
 
+const BOUNDS: [(u8, u32, u8, bool); 24] = [
+    (13, 33, 0, true),
+    (13, 34, 0, false),
+    (18, 14, 0, true),
+    (18, 15, 0, false),
+    (22, 7, 0, true),
+    (22, 8, 0, false),
+    (25, 4, 0, true),
+    (25, 5, 0, false),
+    (27, 3, 0, true),
+    (27, 4, 0, false),
+    (29, 2, 0, true),
+    (29, 3, 0, false),
+    (33, 1, 0, true),
+    (33, 2, 0, false),
+    (9, 64, 0, true),
+    (9, 65, 0, false),
+    (3, 64, 19, true),
+    (3, 65, 19, false),
+    (19, 12, 3, true),
+    (19, 13, 3, false),
+    (3, 1, 3, false),
+    (34, 1, 0, false),
+    (35, 1, 0, false),
+    (34, 0, 0, true),
+];
+
 // Exactly a fifth of the capacity, and one more; 64 blocks, and one more; the slab's own class; and classes of which no
 // block lives where five would fit.
 #[test]
 fn fit_at_the_bounds(rt: HostRuntime) -> Result<(), Fail> {
-    let table = [
-        (13, 33, 0, true),
-        (13, 34, 0, false),
-        (18, 14, 0, true),
-        (18, 15, 0, false),
-        (22, 7, 0, true),
-        (22, 8, 0, false),
-        (25, 4, 0, true),
-        (25, 5, 0, false),
-        (27, 3, 0, true),
-        (27, 4, 0, false),
-        (29, 2, 0, true),
-        (29, 3, 0, false),
-        (33, 1, 0, true),
-        (33, 2, 0, false),
-        (9, 64, 0, true),
-        (9, 65, 0, false),
-        (3, 64, 19, true),
-        (3, 65, 19, false),
-        (19, 12, 3, true),
-        (19, 13, 3, false),
-        (3, 1, 3, false),
-        (34, 1, 0, false),
-        (35, 1, 0, false),
-        (34, 0, 0, true),
-    ];
-    for (own, count, class, expected) in table {
+    for &(own, count, class, expected) in &BOUNDS {
         let answer = fit_with(rt.alloc(), own, count, class)?;
         assert_eq!(rt;
             answer,

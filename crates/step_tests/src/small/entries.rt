@@ -23,21 +23,22 @@ const OLD: WalEntry = WalEntry::Place {
 
 const MOVED: WalEntry = WalEntry::Move { from: 5, to: 9 };
 
+const WORDS: [(u64, Option<WalEntry>); 10] = [
+    (0x0001_0800_0005_0001, Some(ATTACHED)),
+    (0x0001_0800_ffff_3f03, Some(OLD)),
+    (0x0000_0009_0005_0005, Some(MOVED)),
+    (0, None),
+    (0x0001_0800_0005_0000, None),
+    (0x0001_0800_0005_0005, None),
+    (0x0001_0800_0005_0101, None),
+    (0x0001_0800_0005_4003, None),
+    (0x0000_0009_0005_0007, None),
+    (0x0000_0009_0005_0105, None),
+];
+
 #[test]
 fn words_of_entries(rt: HostRuntime) {
-    let rows = [
-        (0x0001_0800_0005_0001, Some(ATTACHED)),
-        (0x0001_0800_ffff_3f03, Some(OLD)),
-        (0x0000_0009_0005_0005, Some(MOVED)),
-        (0, None),
-        (0x0001_0800_0005_0000, None),
-        (0x0001_0800_0005_0005, None),
-        (0x0001_0800_0005_0101, None),
-        (0x0001_0800_0005_4003, None),
-        (0x0000_0009_0005_0007, None),
-        (0x0000_0009_0005_0105, None),
-    ];
-    for (word, entry) in rows {
+    for &(word, entry) in &WORDS {
         assert_eq!(rt; entry_of(word), entry, "at {word}");
     }
     same(&rt, &entry_word(ATTACHED), &0x0001_0800_0005_0001);

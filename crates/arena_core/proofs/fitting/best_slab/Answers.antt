@@ -1,6 +1,7 @@
 use Rattle.std.proofs.Common.{refl, arith}
 use Rattle.arena_core.proofs.Common.{words_of, sizes_of}
-use Rattle.arena_core.proofs.BestSlabs.{none_fit, best_sought, lives_noted, smaller}
+use Rattle.slab_index.proofs.Noting.{nearer}
+use Rattle.arena_core.proofs.BestSlabs.{none_fit, best_sought, lives_noted}
 use Rattle.arena_core.proofs.fitting.best_slab.Goals as goal
 
 pub returns-then-is_ready-clause-best : goal.returns-then-is_ready-clause-best
@@ -18,7 +19,7 @@ loop-next-preserved g c = record {
 pub loop-next-smaller : goal.loop-next-smaller
 loop-next-smaller g c =
     rw c.in-Some.is
-    (smaller c.loop-next.lives c.note_unfit.new.self c.args.class c.in-Some.slab c.first-next-in-Some.result (rw c.in-Some.is at c.loop-next.invariant.first)
+    (nearer c.loop-next.lives c.note_unfit.new.self c.args.class c.in-Some.slab c.first-next-in-Some.result (rw c.in-Some.is at c.loop-next.invariant.first)
     (omega (arith, c.loop-next.invariant.lives.counts.size, (sizes_of (words_of (g.P.Pmem.state c.args.device.now)) c.requires.exact.formed).most))
     (rw c.in-Some.is at c.loop-next.invariant.inside) c.note_unfit.ensures.counts c.note_unfit.ensures.normal c.note_unfit.ensures.unfit c.first-next-in-Some.ensures.first c.first-next-in-Some.ensures.inside)
 

@@ -1,7 +1,7 @@
 use Rattle.std.proofs.Common.{◌<◌, MatchOption, IfSome, length}
 use Rattle.arena_core.proofs.Common.{words_of, AreLivesOf}
-use Rattle.slab_lives.specs.Lives.{HasNoSparse, IsFirstSparse}
-use Rattle.arena_core.proofs.BestSlabs.{left_behind}
+use Rattle.slab_index.specs.Lives.{HasNoSparse, IsFirstSparse}
+use Rattle.slab_index.proofs.Noting.{left_behind}
 use Rattle.arena_core.proofs.fitting.best_slab.Given as goal
 
 abbrev pub invariant-loop-next : goal.invariant-loop-next

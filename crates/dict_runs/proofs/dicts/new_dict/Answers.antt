@@ -30,5 +30,5 @@ returns-in-Ok g c =
 
 pub unreachable-requires : goal.unreachable-requires
 unreachable-requires g c =
-    let fault = rw c.in-Err-NotDict-default.field-0-0-is at c.in-Err-NotDict-default.ensures.fault in
-    nameless (words_of c.in_ok-arena.arena.device) c.in_ok-arena.ensures.empty c.in-Err-NotDict-default.field-0-0-0 fault.here.some
+    let fault = rw c.in-NotDict.is at c.in-Err.ensures.fault in
+    nameless (words_of c.in_ok-arena.arena.device) c.in_ok-arena.ensures.empty c.in-NotDict.root fault.here.some

@@ -1,7 +1,7 @@
 use Rattle.std.proofs.Common.{◌<◌, MatchOption, IfSome, length}
-use Rattle.slab_lives.specs.Lives.{HasNoSparse, IsFirstSparse}
+use Rattle.slab_index.specs.Lives.{HasNoSparse, IsFirstSparse}
+use Rattle.slab_index.proofs.Noting.{left_behind}
 use Rattle.heap_indexes.specs.Fitting.{AreNotedBesides}
-use Rattle.heap_indexes.proofs.BestSlabs.{left_behind}
 use Rattle.heap_indexes.proofs.fitting.best_slab.Given as goal
 
 abbrev pub invariant-loop-next : goal.invariant-loop-next

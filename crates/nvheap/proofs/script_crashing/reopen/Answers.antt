@@ -17,10 +17,10 @@ returns-in-Ok-open-clause-same g c =
     let same = law_of_dicts (words_of c.in-Ok.arena.device) was.pairs dict.pairs (recovered_dict device c.in-Ok.arena.device was.pairs c.in-Ok.ensures.recovered was.steady.dict) c.in-Ok-open.ensures.is_dict in
     record { steady = was.steady.steady; dict = subst (IsDict (words_of device)) same was.steady.dict }
 
-pub unreachable-requires-in-Err-NotDict-default : goal.unreachable-requires-in-Err-NotDict-default
-unreachable-requires-in-Err-NotDict-default g c =
+pub unreachable-requires-in-NotDict : goal.unreachable-requires-in-NotDict
+unreachable-requires-in-NotDict g c =
     let was = c.requires.steady in
-    let found = c.in-Err-NotDict-default in
+    let root = c.in-NotDict.root in
     let kept = recovered_dict (g.P.Pmem.state c.args.device) c.in-Ok.arena.device was.pairs c.in-Ok.ensures.recovered was.steady.dict in
-    let misfit : IsNotDict (words_of c.in-Ok.arena.device) found.field-0-0-0 = rw found.field-0-0-is at found.ensures.fault in
-    misfit.here.unfit (kept.fit found.field-0-0-0 misfit.here.low misfit.here.some)
+    let misfit : IsNotDict (words_of c.in-Ok.arena.device) root = rw c.in-NotDict.is at c.in-Err.ensures.fault in
+    misfit.here.unfit (kept.fit root misfit.here.low misfit.here.some)

@@ -65,7 +65,7 @@ ended g c =
     c.in-Ok-close.ensures.closed
 
 told : (g : given.Over) (c : goal.In-Ok-close g) → AllAnswer by_threads c.args.calls.now 0 (openings g c) (closed g c)
-told g c = answers c.args.calls.now c.args.seats 0 (passes g c) (openings g c) (closed g c) (all g c) c.requires.threads c.in_ok-lengths.ensures.done (ended g c)
+told g c = answers c.args.calls.now c.args.seats 0 (passes g c) (openings g c) (closed g c) (all g c) c.requires.threads c.in-Ok-work_counted.ensures.done (ended g c)
 
 pub returns-in-Ok-close-clause-answers : goal.returns-in-Ok-close-clause-answers
 returns-in-Ok-close-clause-answers g c = told g c
@@ -74,5 +74,5 @@ pub returns-in-Ok-close-clause-lengths : goal.returns-in-Ok-close-clause-lengths
 returns-in-Ok-close-clause-lengths g c own =
     let many = length-map {B = Opening} c.args.arenas.items (λ a. opened a) in
     let arenas = c.len-many.ensures in
-    let counts = c.in_ok-lengths.ensures.all in
-    lengths_are c.args.calls.now c.args.seats 0 (passes g c) (openings g c) (closed g c) c.in_ok-lengths.lengths.items own (all g c) (ended g c) (told g c) c.in_ok-lengths.ensures.counted (omega (arith, many, arenas, counts))
+    let counts = c.in-Ok-work_counted.ensures.all in
+    lengths_are c.args.calls.now c.args.seats 0 (passes g c) (openings g c) (closed g c) c.in-Ok-work_counted.lengths.items own (all g c) (ended g c) (told g c) c.in-Ok-work_counted.ensures.counted (omega (arith, many, arenas, counts))

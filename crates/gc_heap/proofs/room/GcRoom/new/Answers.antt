@@ -15,7 +15,7 @@ invariant_of-result c =
       least = omega (arith, size, c.requires.least);
       most = omega (arith, size, c.requires.most);
       log = subst (λ n. IsBlank n c.in_ok-log.log) (sym size) c.in_ok-log.ensures;
-      are = c.in_ok-indexes.ensures.indexes (gc_bounds c.in_ok-log.log.granules) size (sym (ap (λ (row : Layout). row.first_granule) c.layout_of.ensures.row)) (omega (arith, first_roots));
-      adopted = λ m adoptable. c.in_ok-indexes.ensures.adopted (gc_bounds c.in_ok-log.log.granules) m size (sym (ap (λ (row : Layout). row.first_granule) c.layout_of.ensures.row)) (omega (arith, first_roots)) adoptable;
-      stacks = c.in_ok-indexes.ensures.stacks;
+      are = c.in-Ok.ensures.indexes (gc_bounds c.in_ok-log.log.granules) size (sym (ap (λ (row : Layout). row.first_granule) c.layout_of.ensures.row)) (omega (arith, first_roots));
+      adopted = λ m adoptable. c.in-Ok.ensures.adopted (gc_bounds c.in_ok-log.log.granules) m size (sym (ap (λ (row : Layout). row.first_granule) c.layout_of.ensures.row)) (omega (arith, first_roots)) adoptable;
+      stacks = c.in-Ok.ensures.stacks;
     }

@@ -1,4 +1,0 @@
-pub mod ClassTables
-pub mod ClassImages
-pub mod HeldCounts
-pub mod Fits

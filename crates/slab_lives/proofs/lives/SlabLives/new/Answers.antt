@@ -1,7 +1,0 @@
-use Rattle.std.proofs.Common.{ap, ◌∙◌}
-use Rattle.slab_lives.specs.Kept.{class_if}
-use Rattle.slab_lives.proofs.Counted.{normal_at-is}
-use Rattle.slab_lives.proofs.lives.SlabLives.new.Goals as goal
-
-pub returns-clause-normal : goal.returns-clause-normal
-returns-clause-normal c s = normal_at-is c.in_ok-counts.counts c.in_ok-normal.normal c.in_ok-unfit.unfit s ∙ ap class_if (c.in_ok-normal.ensures.none s)

@@ -1,7 +1,0 @@
-use Rattle.std.proofs.Common.{sym, ap, ◌∙◌}
-use Rattle.slab_lives.specs.Lives.{Lives, normal_at}
-use Rattle.slab_lives.proofs.Counted.{normal_at-is}
-use Rattle.slab_lives.proofs.lives.SlabLives.raise.Goals as goal
-
-pub returns-clause-normal : goal.returns-clause-normal
-returns-clause-normal c s = normal_at-is c.raise.new.self c.recount.new.normal _ s ∙ c.recount.ensures.classes s ∙ sym (normal_at-is c.self.inside.counts c.self.inside.normal c.self.inside.unfit s) ∙ ap (λ (l : Lives). normal_at l s) c.self.view_is
