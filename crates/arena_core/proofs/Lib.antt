@@ -5,6 +5,7 @@ pub mod LiveSlabs
 pub mod LargeStages
 pub mod LargeCalls
 pub mod Arenas
+pub mod HeaderLines
 pub mod Formats
 pub mod StackSteps
 pub mod MachineSteps

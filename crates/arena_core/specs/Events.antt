@@ -6,8 +6,10 @@ use Rattle.pmem_lines.specs.declared.event.Event.TheVariants.{Store, Flush, Fenc
 use Rattle.pmem_lines.specs.Events.{reading}
 use Rattle.durable_steps.specs.Rows.{row_events}
 use Rattle.pool_layout.specs.declared.header.PoolHeader.{PoolHeader}
+use Rattle.pool_layout.specs.declared.header.PoolVariant.{PoolVariant}
+use Rattle.pool_layout.specs.declared.header.PoolVariant.TheVariants.{Log}
 use Rattle.pool_layout.specs.Places.{text_word, fields_word, directory_word, root_word}
-use Rattle.pool_layout.specs.Header.{header_text, header_word}
+use Rattle.pool_layout.specs.Header.{text_of, header_word}
 use Rattle.size_classes.specs.Classes.{class_size, class_capacity}
 use Rattle.image_tables.specs.Forms.{morphed_kind}
 use Rattle.image_tables.specs.Tables.{Tables, tables_of}
@@ -143,8 +145,11 @@ line_after line (replies.Freed at size) = if is_small size then (line + 1) % 8 e
 line_after line (replies.Moved at size) = (line + 1) % 8
 line_after line reply = line
 
--- An arena is formatted: all of it stands in the header line, and its text comes last, so that no crash leaves a header
+-- An arena of a variant is formatted: all of it stands in the header line, and its text comes last, so that no crash leaves a header
 -- that is good and incomplete. The directory has chunk 0.
-unfoldable pub format_events : PoolHeader → List Event
-format_events header =
-    Store (8 * fields_word) (header_word header) ∷ Store (8 * directory_word) 1 ∷ Store (8 * text_word) header_text ∷ Flush 0 ∷ Fence ∷ []
+unfoldable pub line_events : PoolVariant → PoolHeader → List Event
+line_events variant header =
+    Store (8 * fields_word) (header_word header) ∷ Store (8 * directory_word) 1 ∷ Store (8 * text_word) (text_of variant) ∷ Flush 0 ∷ Fence ∷ []
+
+abbrev pub format_events : PoolHeader → List Event
+format_events header = line_events Log header

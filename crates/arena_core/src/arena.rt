@@ -28,7 +28,7 @@ use crate::{
 };
 use heap_model::Block;
 use pmem_lines::Pmem;
-use pool_layout::{PoolHeader, layout_of};
+use pool_layout::{PoolHeader, PoolVariant, layout_of};
 use std::marker::Model;
 
 /// The version of the layout in which `format` makes an arena.
@@ -106,7 +106,7 @@ impl<P: Pmem> Arena<P> {
     }
 
     // Makes an arena of a version anew.
-    #[tactic(auto, using(pool_layout::proofs::Layouts::layout_rules, crate::proofs::Formats::formatted_inside, crate::proofs::Formats::formatted_ready))]
+    #[tactic(auto, using(pool_layout::proofs::Layouts::layout_rules, crate::proofs::Formats::formatted_inside, crate::proofs::HeaderLines::formatted_ready))]
     fn format_as(version: u32, room: ArenaRoom, mut device: P, number: u32, arenas: u32) -> Arena<P>
         requires quiet { IsQuiet (P.state device).events }
         requires room { (layout_of version).room ≤ (P.state device).room }
@@ -130,7 +130,7 @@ impl<P: Pmem> Arena<P> {
         };
         take_front(&mut volatile.free, layout_of(version).first_granule);
         device.begin();
-        write_header(&mut device, &header);
+        write_header(&mut device, PoolVariant::Log, &header);
         volatile.log.load(&device);
         Arena { device, volatile }
     }

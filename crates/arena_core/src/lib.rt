@@ -7,8 +7,9 @@
 // leaves a steady image with the heap from before the call or from after it (`IsEitherHeap`). A block moves from a root to
 // another by a call of its own (`specs/Moving.antt`), under an entry that a crash may leave open (`IsEitherMoved`). The
 // words of a block are written many at a time, under one fence (`specs/Payload.antt`): a crash leaves each of them old or
-// new (`IsEitherWords`). `write_words` is that write for itself, which the arena of the GC variant has too. A view lends
-// them in place. What every call has in common with these stands in `specs/ByCall.antt`.
+// new (`IsEitherWords`). A view lends them in place. What every call has in common with these stands in `specs/ByCall.antt`.
+// `write_words` and `write_header` are such a write, and the header line of a new arena, for themselves: the arena of the GC
+// variant has them too.
 //
 // A call plans, begins, and carries out: `specs/Plan.antt` has what a plan decides. `ArenaRoom` takes the memory that an
 // arena needs, and no call of `Arena` takes any. The layer above knows these contracts, and nothing of the log's table
@@ -30,6 +31,7 @@ mod volatile;
 
 pub use answer::{BlockRefusal, FreeRefusal, Freed, MallocRefusal, MoveRefusal, Moved, Placed};
 pub use arena::Arena;
+pub use formatting::write_header;
 pub use laws::{law_of_crashes, law_of_one_read, law_of_one_word};
 pub use payload::write_words;
 pub use room::ArenaRoom;

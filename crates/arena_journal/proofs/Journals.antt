@@ -1,5 +1,5 @@
 -- Journals that grow, with the arena that they lead to.
-use Rattle.std.proofs.Common.{◌≡◌, ◌≢◌, ◌⊎◌, inl, inr, ℕ, suc, ◌+◌, Bool, true, false, if◌then◌else◌, List, [], ◌∷◌, ◌++◌, refl, ap, sym, ◌∙◌, subst, arith, append_assoc, ⊎_elim}
+use Rattle.std.proofs.Common.{◌≡◌, ◌≢◌, ◌⊎◌, inl, inr, ℕ, suc, ◌+◌, ◌≤◌, Bool, true, false, if◌then◌else◌, List, [], ◌∷◌, ◌++◌, length, refl, ap, sym, ◌∙◌, subst, arith, append_assoc, ⊎_elim}
 use Rattle.std.proofs.lemmas.Bool.{cases_Bool}
 use Rattle.pmem_lines.specs.Pmem.{PmemState, words_of, risen}
 use Rattle.pmem_lines.specs.Events.{CrashOnly, reading}
@@ -24,7 +24,7 @@ use Rattle.arena_lock.specs.Legality.{opening_words, machine_in, IsLegal}
 use Rattle.arena_journal.specs.Journals.{opened, begins_call, begun_by, line_behind, words_along, IsUntouched, IsBehindCall, IsBehind, HasBegun, HasDone, HasAnswered}
 
 -- an entry more leads on
-leads_more : {State : Type 0} (Steps : State → Entry → State → Type 0) (m middle next : State) (journal : List Entry) (e : Entry) → Leads Steps m journal middle → Steps middle e next → Leads Steps m (journal ++ e ∷ []) next
+pub leads_more : {State : Type 0} (Steps : State → Entry → State → Type 0) (m middle next : State) (journal : List Entry) (e : Entry) → Leads Steps m journal middle → Steps middle e next → Leads Steps m (journal ++ e ∷ []) next
 leads_more Steps m middle next [] e h s = (next, subst (λ n. Steps n e next) h s, refl)
 leads_more Steps m middle next (x ∷ xs) e h s = (h.0, h.1, leads_more Steps h.0 middle next xs e h.2 s)
 
@@ -43,17 +43,26 @@ count_if : (b : Bool) (m n : ℕ) → (if b then suc (m + n) else m + n) ≡ (if
 count_if true m n = let e : suc (m + n) ≡ suc m + n = omega arith in e
 count_if false m n = refl
 
-begun_append : (xs ys : List Entry) → begun_by (xs ++ ys) ≡ begun_by xs + begun_by ys
+pub begun_append : (xs ys : List Entry) → begun_by (xs ++ ys) ≡ begun_by xs + begun_by ys
 begun_append [] ys = let e : begun_by ys ≡ 0 + begun_by ys = omega arith in e
 begun_append (x ∷ xs) ys = ap (λ (n : ℕ). if begins_call x.call then suc n else n) (begun_append xs ys) ∙ count_if (begins_call x.call) (begun_by xs) (begun_by ys)
 
-one_begun : (e : Entry) (b : Bool) → begins_call e.call ≡ b → begun_by (e ∷ []) ≡ (if b then 1 else 0)
+-- no more calls begin than there are entries
+one_or_none : (b : Bool) (m n : ℕ) → m ≤ n → (if b then suc m else m) ≤ suc n
+one_or_none true m n le = omega (arith, le)
+one_or_none false m n le = omega (arith, le)
+
+pub begun_few : (journal : List Entry) → begun_by journal ≤ length journal
+begun_few [] = omega arith
+begun_few (e ∷ es) = one_or_none (begins_call e.call) (begun_by es) (length es) (begun_few es)
+
+pub one_begun : (e : Entry) (b : Bool) → begins_call e.call ≡ b → begun_by (e ∷ []) ≡ (if b then 1 else 0)
 one_begun e b is = ap (λ (z : Bool). if z then 1 else 0) is
 
-risen_one : (b n : ℕ) → risen (risen b n) 1 ≡ risen b (n + 1)
+pub risen_one : (b n : ℕ) → risen (risen b n) 1 ≡ risen b (n + 1)
 risen_one b n = omega arith
 
-plus_none : (n : ℕ) → n + 0 ≡ n
+pub plus_none : (n : ℕ) → n + 0 ≡ n
 plus_none n = omega arith
 
 risen_none : (b : ℕ) → b ≡ risen b 0

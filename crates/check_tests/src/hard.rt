@@ -3,7 +3,7 @@
 ghost use Rattle.std.specs.Prelude.{◌<◌};
 
 use crate::answers::{answer_is, bad_slab, counts, shared};
-use crate::images::{Put, blank, put};
+use crate::images::{Put, blank, put, put_entry, set};
 use pmem_lines::OutOfMemory;
 use pool_layout::Defect;
 use std::alloc::Global;
@@ -19,25 +19,6 @@ const LARGEST: [Put; 3] = [
 
 // How many slabs the heap may have. Slab k begins at granule 4 + 4k.
 const SLABS: u64 = 255;
-
-// Puts a word into an image, where it has one.
-fn set(words: &mut [u64], at: u64, value: u64) {
-    if at < words.len() as u64 {
-        words[at as usize] = value;
-    }
-}
-
-// Puts an entry of the log's list, of which each chunk has 120, into its place.
-fn put_entry(words: &mut [u64], number: u64, entry: u64)
-    requires { number < 960 }
-{
-    let own = number % 120;
-    set(
-        words,
-        6152 + 128 * (number / 120) + 8 * (own % 15) + own / 15,
-        entry,
-    );
-}
 
 // Has root number `root` hold a block of a slab, by its place behind the slab's header in bytes.
 fn hold(words: &mut [u64], root: u64, slab: u64, place: u64)

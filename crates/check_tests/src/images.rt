@@ -1,5 +1,5 @@
 // Images made by hand.
-ghost use Rattle.std.specs.Prelude.{◌≡◌, ◌≤◌, ◌%◌, IfOk, length};
+ghost use Rattle.std.specs.Prelude.{◌≡◌, ◌<◌, ◌≤◌, ◌%◌, IfOk, length};
 
 use pmem_lines::OutOfMemory;
 use std::alloc::Global;
@@ -91,4 +91,35 @@ pub fn image(alloc: Global, base: &Base, changes: &[Put]) -> Result<Vec<u64>, Ou
     put(&mut words, base.words);
     put(&mut words, changes);
     Ok(words)
+}
+
+/// The words of an arena under two rows, each over the one before.
+pub fn image_under(
+    alloc: Global,
+    base: &Base,
+    changes: &[Put],
+    after: &[Put],
+) -> Result<Vec<u64>, OutOfMemory> {
+    let mut words = image(alloc, base, changes)?;
+    put(&mut words, after);
+    Ok(words)
+}
+
+/// Puts a word into an image, where it has one.
+pub fn set(words: &mut [u64], at: u64, value: u64) {
+    if at < words.len() as u64 {
+        words[at as usize] = value;
+    }
+}
+
+/// Puts an entry of the list of a log of eight chunks into its place: of version 1, so that each chunk has 120.
+pub fn put_entry(words: &mut [u64], number: u64, entry: u64)
+    requires { number < 960 }
+{
+    let own = number % 120;
+    set(
+        words,
+        6152 + 128 * (number / 120) + 8 * (own % 15) + own / 15,
+        entry,
+    );
 }

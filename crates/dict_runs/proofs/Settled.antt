@@ -17,7 +17,8 @@ use Rattle.image_defects.proofs.LeastNumbers.{least_once}
 use Rattle.heap_check.proofs.Formatted.{law_of_formatted}
 use Rattle.arena_core.specs.Events.{line_after}
 use Rattle.arena_core.specs.Payload.{with_values, IsWriteOf}
-use Rattle.arena_core.proofs.Formats.{written, reading-format, IsFormatted-written}
+use Rattle.pool_layout.specs.declared.header.PoolVariant.TheVariants.{Log}
+use Rattle.arena_core.proofs.HeaderLines.{written, reading-line, formatted-written}
 use Rattle.trace_runs.specs.Arenas.{bounds_for, formatted}
 use Rattle.attach_dict.proofs.Room.{next_once}
 use Rattle.dict_runs.specs.Acts.{Act, Ask, Fill, act_events, Standing, Leads}
@@ -244,8 +245,8 @@ formatted_empty : (header : PoolHeader) → IsPoolHeader header → HasState (fo
 unfolding formatted
 formatted_empty header valid =
     let blank = zeros (2048 * header.granules) in
-    subst (λ (words : List ℕ). HasState words no_heap) (sym (reading-format blank header))
-    (law_of_formatted (written blank header) header (IsFormatted-written blank header (AreZeros-zeros (2048 * header.granules)) valid (length-zeros (2048 * header.granules)))).1
+    subst (λ (words : List ℕ). HasState words no_heap) (sym (reading-line Log blank header))
+    (law_of_formatted (written Log blank header) header (formatted-written Log blank header (AreZeros-zeros (2048 * header.granules)) valid (length-zeros (2048 * header.granules)))).1
 
 script_header : (granules : ℕ) → IsDictSize granules → IsPoolHeader (header_of granules)
 unfolding all_granules

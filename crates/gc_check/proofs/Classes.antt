@@ -1,40 +1,18 @@
 -- The classes of defects that are this variant's own: an image without a class of defects has none, and it has one first at most.
-use Rattle.std.proofs.Common.{◌≡◌, ℕ, List, sym, ap, subst, ◌∙◌, arith, ⊎_elim, inl, inr}
+use Rattle.std.proofs.Common.{◌≡◌, ℕ, List, sym, ap, subst, ◌∙◌, ⊎_elim}
 use Rattle.pmem_lines.specs.Words.{word_at}
 use Rattle.pool_layout.specs.declared.defect.Defect.{Defect}
 use Rattle.pool_layout.specs.declared.defect.Defect.TheVariants.{BadSlab, StrayRoot, SharedBlock, TooManyLoose}
 use Rattle.pool_layout.specs.Header.{granules_in}
 use Rattle.image_tables.specs.Tables.{state_word}
-use Rattle.heap_check.specs.Image.{header_in}
 use Rattle.heap_check.specs.Sound.{IsLooseLarge, IsEmptySlab}
 use Rattle.image_defects.specs.Least.{IsLeast}
 use Rattle.image_defects.proofs.LeastNumbers.{least_once}
 use Rattle.image_defects.proofs.Counts.{not_two, count_once}
-use Rattle.gc_check.specs.Header.{IsGcHeader, IsBadGcLine, IsGcHeaderDefect}
 use Rattle.gc_check.specs.Heap.{gc_tables}
 use Rattle.gc_check.specs.Sound.{AreFewGcLoose}
 use Rattle.gc_check.specs.Image.{AreNormalSlabs}
 use Rattle.gc_check.specs.Defects.{IsBadSlab, IsGcSlabDefect, IsGcStrayRoot, AreGcStanding, IsGcRootDefect, HasGcShared, IsGcSharing, AreGcUnshared, IsGcSharedDefect, IsGcLooseDefect}
-
--- header
-
-pub header_bad : (words : List ℕ) (d : Defect) → IsGcHeaderDefect words d → ¬ (IsGcHeader words (header_in words))
-header_bad words d is header = ⊎_elim
-    (λ short. omega (arith, short.0, header.whole))
-    (λ line. ⊎_elim (λ text. text.0 header.text) (λ fields. fields.1 (header_in words, header.valid, header.word)) line.1)
-    is
-
-one_bad_line : (words : List ℕ) (d e : Defect) → IsBadGcLine words d → IsBadGcLine words e → d ≡ e
-one_bad_line words d e (inl p) (inl q) = p.1 ∙ sym q.1
-one_bad_line words d e (inl p) (inr q) = absurd (p.0 q.0)
-one_bad_line words d e (inr p) (inl q) = absurd (q.0 p.0)
-one_bad_line words d e (inr p) (inr q) = p.2 ∙ sym q.2
-
-pub header_once : (words : List ℕ) (d e : Defect) → IsGcHeaderDefect words d → IsGcHeaderDefect words e → d ≡ e
-header_once words d e is also = ⊎_elim
-    (λ short. ⊎_elim (λ other. short.1 ∙ sym other.1) (λ line. absurd (omega (arith, short.0, line.0))) also)
-    (λ line. ⊎_elim (λ short. absurd (omega (arith, short.0, line.0))) (λ other. one_bad_line words d e line.1 other.1) also)
-    is
 
 -- slabs
 

@@ -4,7 +4,7 @@ use Rattle.std.proofs.lemmas.Bool.{cases_eq}
 use Rattle.pmem_lines.specs.Words.{word_at, put_word}
 use Rattle.pmem_lines.proofs.Words.{word_at-put_same, word_at-put_other, length-put_word}
 use Rattle.pool_layout.specs.Places.{text_word, fields_word, root_word}
-use Rattle.pool_layout.specs.Header.{header_word, fields_of, version_in, granules_in, granules_field, version_field}
+use Rattle.pool_layout.specs.Header.{header_word, fields_of, version_in, granules_in, granules_field, version_field, IsGcPoolHeader}
 use Rattle.image_tables.specs.Extents.{extent_at}
 use Rattle.image_tables.specs.Tables.{Tables, is_slab, is_slab_of, large_of, AreSlabsInHeap, root_in, open_entry_in, slab_header, state_word, state_field, tables_of}
 use Rattle.image_tables.proofs.Logs.{IsOffLog, SameLog-elsewhere}
@@ -16,7 +16,6 @@ use Rattle.book_log.proofs.Books.{HasLog-same}
 use Rattle.heap_check.specs.Image.{bounds_of}
 use Rattle.heap_check.specs.Sound.{AreExtents}
 use Rattle.heap_check.proofs.Geometry.{granules_at-slab}
-use Rattle.gc_check.specs.Header.{IsGcPoolHeader}
 use Rattle.gc_check.specs.Heap.{address_field, gc_tables}
 use Rattle.gc_check.specs.Image.{IsNormalWord, IsGcFormed}
 use Rattle.gc_check.proofs.RootWords.{with_word}

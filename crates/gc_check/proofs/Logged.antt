@@ -6,7 +6,7 @@ use Rattle.pmem_lines.specs.Words.{word_at, put_word}
 use Rattle.pmem_lines.proofs.Words.{word_at-put_other}
 use Rattle.pool_layout.specs.Places.{fields_word, directory_word, heap_word}
 use Rattle.pool_layout.specs.Layout.{layout_of}
-use Rattle.pool_layout.specs.Header.{header_word, fields_of, version_in, granules_in, granules_field}
+use Rattle.pool_layout.specs.Header.{header_word, fields_of, version_in, granules_in, granules_field, IsGcPoolHeader}
 use Rattle.pool_layout.proofs.Layouts.{layout_rules}
 use Rattle.image_tables.specs.declared.extent.Extent.{Extent}
 use Rattle.image_tables.specs.Extents.{extent_at}
@@ -29,7 +29,6 @@ use Rattle.heap_check.specs.Sound.{granules_at, Covers}
 use Rattle.heap_check.specs.State.{IsWordOf}
 use Rattle.heap_check.proofs.Forms.{bounds_of-off_log, bounds_of-put_word}
 use Rattle.heap_check.proofs.Geometry.{size_is, Covers-slab, is_large-parts}
-use Rattle.gc_check.specs.Header.{IsGcPoolHeader}
 use Rattle.gc_check.specs.Heap.{address_field, gc_tables, gc_heap}
 use Rattle.gc_check.specs.Sound.{IsClassBlock, IsGcSound}
 use Rattle.gc_check.specs.Image.{IsNormalWord, IsGcFormed}

@@ -2,7 +2,7 @@
 use Rattle.std.proofs.Common.{◌≡◌, ℕ, ◌*◌, ◌<◌, true, cond, List, Some, None, refl, sym, ap, subst, ◌∙◌, arith}
 use Rattle.pmem_lines.specs.Words.{word_at}
 use Rattle.pool_layout.specs.Places.{text_word, root_word, entry_slot, heap_word}
-use Rattle.pool_layout.specs.Header.{header_word, fields_of, version_field, version_in, granules_in, granules_field}
+use Rattle.pool_layout.specs.Header.{header_word, fields_of, version_field, version_in, granules_in, granules_field, IsGcPoolHeader}
 use Rattle.image_tables.specs.Tables.{Tables, root_in, open_entry_in, large_of, is_slab_of, is_slab, state_word, slab_header, tables_of}
 use Rattle.image_tables.specs.Extents.{extent_at}
 use Rattle.image_tables.proofs.Extents.{extent_at-same}
@@ -16,7 +16,6 @@ use Rattle.heap_check.specs.Heap.{slabs}
 use Rattle.heap_check.specs.Image.{bounds_of}
 use Rattle.heap_check.proofs.Forms.{bounds_of-same}
 use Rattle.heap_check.proofs.OffBlocks.{IsSameOffBlock}
-use Rattle.gc_check.specs.Header.{IsGcPoolHeader}
 use Rattle.gc_check.specs.Heap.{address_field, gc_tables, gc_heap}
 use Rattle.gc_check.specs.Sound.{IsGcExact}
 use Rattle.gc_check.specs.Image.{IsNormalWord, IsGcFormed, IsGcExactImage}

@@ -2,7 +2,7 @@
 -- are the ones of `image_defects`.
 use Rattle.std.specs.Prelude.{◌≡◌, ◌≢◌, ◌⊎◌, ℕ, ◌<◌, true, List, Some}
 use Rattle.pmem_lines.specs.Words.{word_at}
-use Rattle.pool_layout.specs.Header.{granules_in}
+use Rattle.pool_layout.specs.Header.{granules_in, IsGcHeader, IsGcHeaderDefect}
 use Rattle.pool_layout.specs.declared.defect.Defect.{Defect}
 use Rattle.pool_layout.specs.declared.defect.Defect.TheVariants.{BadSlab, StrayRoot, SharedBlock, TooManyLoose}
 use Rattle.image_tables.specs.Tables.{Tables, is_slab, state_word, tables_of}
@@ -15,7 +15,6 @@ use Rattle.image_defects.specs.Count.{IsCount}
 use Rattle.image_defects.specs.Log.{HasDirectory, IsDirectoryDefect, HasEntries, IsEntryDefect, AreDisjoint, IsOverlapDefect}
 use Rattle.image_defects.specs.Blocks.{DoOverlap}
 use Rattle.image_defects.specs.Defects.{HasLength, IsLengthDefect, Before}
-use Rattle.gc_check.specs.Header.{IsGcHeader, IsGcHeaderDefect}
 use Rattle.gc_check.specs.Heap.{gc_tables, gc_heap}
 use Rattle.gc_check.specs.Sound.{IsGcStanding, AreFewGcLoose}
 use Rattle.gc_check.specs.Image.{IsNormalWord, AreNormalSlabs}

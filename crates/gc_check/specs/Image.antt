@@ -1,13 +1,12 @@
 -- The image of an arena of this variant as a whole.
 use Rattle.std.specs.Prelude.{◌≡◌, ℕ, ◌+◌, ◌*◌, ◌^◌, ◌<◌, true, List}
 use Rattle.pmem_lines.specs.Words.{word_at}
-use Rattle.pool_layout.specs.Header.{granules_in}
+use Rattle.pool_layout.specs.Header.{granules_in, IsGcHeader}
 use Rattle.image_tables.specs.Forms.{normal_kind}
 use Rattle.image_tables.specs.Tables.{is_slab, state_word}
 use Rattle.book_log.specs.Book.{HasLog}
 use Rattle.heap_check.specs.Image.{bounds_of, header_in}
 use Rattle.image_defects.specs.Defects.{HasLength}
-use Rattle.gc_check.specs.Header.{IsGcHeader}
 use Rattle.gc_check.specs.Heap.{gc_tables}
 use Rattle.gc_check.specs.Sound.{IsGcSound, IsGcExact, IsGcExactBut}
 

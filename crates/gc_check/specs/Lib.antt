@@ -1,4 +1,3 @@
-pub mod Header
 pub mod Heap
 pub mod Sound
 pub mod Image

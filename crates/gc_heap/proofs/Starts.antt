@@ -11,7 +11,7 @@ use Rattle.heap_model.proofs.Below.{any_below-true, any_below-some}
 use Rattle.heap_check.specs.Heap.{slab_of}
 use Rattle.heap_check.specs.Image.{bounds_of}
 use Rattle.heap_check.specs.Sound.{Covers, IsVacant, IsInSlab, HasOther}
-use Rattle.heap_check.proofs.Geometry.{Covers-slab}
+use Rattle.heap_check.proofs.Geometry.{Covers-slab, slab_of-extents}
 use Rattle.arena_core.specs.Events.{is_small, class_for, start_at}
 use Rattle.gc_check.specs.Heap.{small_word, gc_tables}
 use Rattle.gc_check.specs.Sound.{IsGcSound}
@@ -22,19 +22,7 @@ use Rattle.gc_heap.specs.Events.{has_other, placed_events, gone_events, freed_ev
 
 -- the slab that has a granule
 pub slab_is : {b : Bounds} {t : Tables} → IsGcSound b t → (start k : ℕ) → t.slab start ≡ true → start ≤ k → k < start + 4 → slab_of t.slab k ≡ start
-unfolding slab_of
-slab_is {b} {t} sound start k slab low high =
-    let here : Covers t start k = Covers-slab t start k slab low high in
-    let step : (is : Bool) (m rest : ℕ) → t.slab m ≡ is → m ≤ k → k < m + 4 → (is ≡ false → rest ≡ start) → cond is m rest ≡ start =
-    λ is m rest. elim is as (λ is. t.slab m ≡ is → m ≤ k → k < m + 4 → (is ≡ false → rest ≡ start) → cond is m rest ≡ start) [
-      | true ↦ λ is from to next. sound.extents.disjoint m start k (Covers-slab t m k is from to) here
-      | false ↦ λ is from to next. next refl
-    ] in
-    step (t.slab k) k _ refl (omega arith) (omega arith) (λ none.
-    step (t.slab (k - 1)) (k - 1) _ refl (omega arith) (omega arith) (λ none_1.
-    step (t.slab (k - 2)) (k - 2) _ refl (omega arith) (omega arith) (λ none_2.
-    let elsewhere : (m : ℕ) → t.slab m ≡ false → m ≢ start = λ m none same. true≢false (sym slab ∙ ap t.slab (sym same) ∙ none) in
-    omega (arith, elsewhere k none, elsewhere (k - 1) none_1, elsewhere (k - 2) none_2))))
+slab_is {b} {t} sound = slab_of-extents t sound.extents
 
 -- no slab has a vacant granule
 pub vacant_none : {b : Bounds} (t : Tables) (start : ℕ) → 3 ≤ start → IsVacant b t start → t.slab (slab_of t.slab start) ≡ false

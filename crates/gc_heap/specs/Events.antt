@@ -1,12 +1,10 @@
 -- The exact events of a call, as a function of the words at its begin. No write-ahead entry is put and no bit is stored: a root's
 -- word alone gives a block or takes it.
-use Rattle.std.specs.Prelude.{◌==◌, ◌&&◌, ℕ, ◌*◌, ◌/◌, Bool, not, List, [], ◌∷◌, ◌++◌, if◌then◌else◌}
+use Rattle.std.specs.Prelude.{◌==◌, ◌&&◌, ℕ, ◌/◌, Bool, not, List, [], ◌∷◌, ◌++◌, if◌then◌else◌}
 use Rattle.pmem_lines.specs.declared.event.Event.{Event}
-use Rattle.pmem_lines.specs.declared.event.Event.TheVariants.{Store, Flush, Fence}
 use Rattle.pmem_lines.specs.Events.{reading}
 use Rattle.pool_layout.specs.declared.header.PoolHeader.{PoolHeader}
-use Rattle.pool_layout.specs.Places.{text_word, fields_word, directory_word}
-use Rattle.pool_layout.specs.Header.{header_word}
+use Rattle.pool_layout.specs.declared.header.PoolVariant.TheVariants.{Gc}
 use Rattle.heap_model.specs.Below.{any_below}
 use Rattle.heap_model.specs.Slabs.{is_within}
 use Rattle.heap_model.specs.declared.call.Call.{Call}
@@ -14,8 +12,7 @@ use Rattle.heap_model.specs.declared.call.Call.TheVariants as calls
 use Rattle.heap_model.specs.declared.call.Reply.{Reply}
 use Rattle.heap_model.specs.declared.call.Reply.TheVariants as replies
 use Rattle.heap_check.specs.Image.{bounds_of}
-use Rattle.arena_core.specs.Events.{is_small, class_for, start_at, in_slab, write_events}
-use Rattle.gc_check.specs.Header.{gc_text}
+use Rattle.arena_core.specs.Events.{is_small, class_for, start_at, in_slab, write_events, line_events}
 use Rattle.gc_check.specs.Heap.{small_word, gc_tables}
 use Rattle.gc_steps.specs.Roots.{root_events}
 use Rattle.gc_steps.specs.Slabs.{class_events}
@@ -60,8 +57,6 @@ gc_call_events words (calls.Free root) (replies.Freed at size) = freed_events wo
 gc_call_events words (calls.Write root index word) replies.Wrote = write_events (gc_tables words) root index (word ∷ [])
 gc_call_events words call reply = []
 
--- An arena is formatted: all of it stands in the header line, and its text comes last, so that no crash leaves a header that is good
--- and incomplete. The directory has chunk 0.
-unfoldable pub gc_format_events : PoolHeader → List Event
-gc_format_events header =
-    Store (8 * fields_word) (header_word header) ∷ Store (8 * directory_word) 1 ∷ Store (8 * text_word) gc_text ∷ Flush 0 ∷ Fence ∷ []
+-- the events of formatting an arena of this variant
+abbrev pub gc_format_events : PoolHeader → List Event
+gc_format_events header = line_events Gc header

@@ -23,16 +23,15 @@ use crate::GcRoom;
 use crate::adopting::read_image;
 use crate::blocks::block_of;
 use crate::carrying::{carry_out_given, carry_out_place};
-use crate::formatting::write_header;
 use crate::payload::{carry_out_write, plan_write};
 use crate::planning::{plan_free, plan_malloc};
 use crate::room::VERSION;
-use arena_core::{BlockRefusal, FreeRefusal, Freed, MallocRefusal, Placed};
+use arena_core::{BlockRefusal, FreeRefusal, Freed, MallocRefusal, Placed, write_header};
 use book_log::BookLog;
 use heap_indexes::HeapIndexes;
 use heap_model::Block;
 use pmem_lines::Pmem;
-use pool_layout::PoolHeader;
+use pool_layout::{PoolHeader, PoolVariant};
 use std::marker::Model;
 
 /// An arena of the GC variant over a memory of granules of 16384 bytes, with 4096 roots of which each names a block or none. A small
@@ -83,7 +82,7 @@ impl<P: Pmem> GcArena<P> {
         };
         let mut device = p;
         device.begin();
-        write_header(&mut device, &header);
+        write_header(&mut device, PoolVariant::Gc, &header);
         log.load(&device);
         GcArena {
             device,

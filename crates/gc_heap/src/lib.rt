@@ -16,7 +16,6 @@ mod adopting;
 mod arena;
 mod blocks;
 mod carrying;
-mod formatting;
 mod payload;
 mod planning;
 mod room;

@@ -8,8 +8,7 @@ ghost use Rattle.gc_search.specs.Image.{IsSoundWith};
 ghost use Rattle.heap_map.specs.Blocks.{IsRootBlock};
 ghost use Rattle.gc_map.specs.GcRules.{gc_rules};
 
-use crate::root_word::{address_of, class_field_of};
-use gc_search::{GcFault, GcImage, check_gc_arena};
+use gc_search::{GcFault, GcImage, address_of, check_gc_arena, class_field_of};
 use heap_map::RootBlock;
 use image_reading::{large_at, root_word};
 use size_classes::size_of_class;

@@ -13,7 +13,6 @@ mod classes;
 mod mapping;
 mod places;
 mod reading;
-mod root_word;
 mod scanning;
 mod summary;
 mod tallies;

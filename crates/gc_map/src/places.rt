@@ -6,8 +6,8 @@ ghost use Rattle.gc_search.specs.Known.{IsLogRead};
 ghost use Rattle.gc_map.specs.GcRules.{roots_in};
 ghost use Rattle.gc_map.specs.Places.{HasNoSlabOver, IsSlabOver, HasNoPlace, IsPlaceOf, ArePlaces};
 
-use crate::root_word::{address_of, class_field_of};
 use book_log::BookLog;
+use gc_search::{address_of, class_field_of};
 use image_reading::{is_slab, root_word, roots_of, state_word};
 use pmem_lines::OutOfMemory;
 use std::alloc::Global;

@@ -10,9 +10,8 @@ ghost use Rattle.gc_search.specs.Image.{IsSoundWith};
 ghost use Rattle.heap_map.specs.Facts.{AreSummed};
 ghost use Rattle.gc_map.specs.GcRules.{roots_in, gc_rules};
 
-use crate::root_word::address_of;
 use defect_search::counted;
-use gc_search::{GcImage, is_empty_slab, is_loose_large};
+use gc_search::{GcImage, address_of, is_empty_slab, is_loose_large};
 use image_defects::Summary;
 use image_reading::{is_slab, large_at, root_word, roots_of};
 

@@ -1,42 +1,21 @@
 // What becomes of images.
 ghost use Rattle.std.specs.Prelude.{◌≡◌, ◌≤◌, ◌%◌, length};
 
-use check_tests::{Put, image, put};
+use check_tests::{Became, Put, image, image_under, recovered_to, was_refused};
 use gc_recover::recover_device;
 use gc_search::GcFault;
 use gc_search_tests::ONE_BLOCK;
-use pmem_lines::{OutOfMemory, Pmem, SimPmem};
-use pool_layout::Defect;
+use pmem_lines::{OutOfMemory, SimPmem};
 use std::alloc::Global;
 
 /// The events that a device has room for.
 pub const ROOM: u32 = 2048;
 
-/// What became of an image.
-#[derive(Clone, Copy, Debug, PartialEq, Eq)]
-pub enum Became {
-    /// It is exact: these are its words, and so many events made it so.
-    Wanted { events: u32 },
-    /// It has other words.
-    Other,
-    /// It was refused for this defect, and the device is as it was.
-    Refused(Defect),
-    /// It was refused, and the device is not as it was.
-    Changed,
-}
-
 /// The arena with one block, with the words of a row over its own, is recovered, and its words are compared with those of another
 /// row over them.
 pub fn recovered(alloc: Global, changes: &[Put], after: &[Put]) -> Result<Became, OutOfMemory> {
-    let wanted = image_under(alloc, changes, after)?;
+    let wanted = image_under(alloc, &ONE_BLOCK, changes, after)?;
     compared(alloc, changes, &wanted)
-}
-
-// The words of that arena under two rows, the second over the first.
-fn image_under(alloc: Global, changes: &[Put], after: &[Put]) -> Result<Vec<u64>, OutOfMemory> {
-    let mut words = image(alloc, &ONE_BLOCK, changes)?;
-    put(&mut words, after);
-    Ok(words)
 }
 
 // That arena, with the words of a row over its own, is recovered, and its words are compared with these.
@@ -67,26 +46,6 @@ fn refused_by(fault: GcFault, device: &SimPmem, before: &[u64]) -> Result<Became
     match fault {
         GcFault::Memory(error) => Err(error),
         GcFault::Defect(defect) => Ok(was_refused(device, before, defect)),
-    }
-}
-
-// A device was made exact: whether it has the words that are wanted.
-fn recovered_to(device: &SimPmem, wanted: &[u64]) -> Became {
-    if device.words(0, device.size_words()) == wanted {
-        Became::Wanted {
-            events: device.event_count(),
-        }
-    } else {
-        Became::Other
-    }
-}
-
-// A device was refused for this defect: whether it has the words from before, and no event.
-fn was_refused(device: &SimPmem, before: &[u64], defect: Defect) -> Became {
-    if device.words(0, device.size_words()) == before && device.event_count() == 0 {
-        Became::Refused(defect)
-    } else {
-        Became::Changed
     }
 }
 

@@ -1,6 +1,6 @@
 // Loose extents get Tombs, one append each.
-use crate::outcomes::{Became, recovered};
-use check_tests::Put;
+use crate::outcomes::recovered;
+use check_tests::{Became, Put};
 use gc_search_tests::small_word;
 use pool_layout::Defect;
 use std::test::Fail;

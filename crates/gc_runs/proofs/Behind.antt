@@ -1,5 +1,5 @@
 -- Journals that grow, with the arena of this variant that they lead to.
-use Rattle.std.proofs.Common.{◌≡◌, ◌⊎◌, inl, inr, ℕ, suc, ◌+◌, ◌<◌, ◌≤◌, ◌^◌, Bool, true, false, if◌then◌else◌, List, [], ◌∷◌, ◌++◌, length, refl, ap, sym, ◌∙◌, subst, arith, append_assoc, ⊎_elim}
+use Rattle.std.proofs.Common.{◌≡◌, ◌⊎◌, inl, inr, ℕ, ◌+◌, ◌<◌, ◌^◌, true, false, List, [], ◌∷◌, ◌++◌, length, refl, ap, sym, ◌∙◌, subst, arith, append_assoc, ⊎_elim}
 use Rattle.std.proofs.lemmas.Bool.{cases_Bool}
 use Rattle.pmem_lines.specs.Pmem.{PmemState, words_of, risen}
 use Rattle.pmem_lines.specs.Events.{reading}
@@ -10,9 +10,10 @@ use Rattle.heap_model.specs.declared.call.Reply.{Reply}
 use Rattle.heap_model.specs.declared.call.Entry.{Entry}
 use Rattle.heap_model.specs.Machine.{Bounds, Machine, no_heap, IsOverlapFree}
 use Rattle.heap_model.specs.Placement.{PlacedState, bare, IsPlacedStep}
-use Rattle.heap_model.specs.Journal.{Leads, IsPlacedEntry}
+use Rattle.heap_model.specs.Journal.{IsPlacedEntry}
 use Rattle.thread_cache.specs.Stacks.{stacks_of}
 use Rattle.arena_journal.specs.Journals.{begins_call, begun_by}
+use Rattle.arena_journal.proofs.Journals.{leads_more, begun_append, begun_few, one_begun, risen_one, plus_none}
 use Rattle.trace_runs.specs.Arenas.{bounds_for}
 use Rattle.gc_check.specs.Image.{IsGcExactImage}
 use Rattle.gc_check.specs.State.{HasGcState}
@@ -24,33 +25,9 @@ use Rattle.gc_runs.specs.Answered.{HasGcBegun, HasGcDone, HasGcAnswered}
 use Rattle.gc_runs.specs.Journals.{gc_words_along, IsAsGcFormatted, IsBehindLastGc, HasGcRun}
 use Rattle.gc_runs.specs.Kept.{IsGcBehind}
 
--- an entry more leads on
-leads_more : {State : Type 0} (Steps : State → Entry → State → Type 0) (m middle next : State) (journal : List Entry) (e : Entry) → Leads Steps m journal middle → Steps middle e next → Leads Steps m (journal ++ e ∷ []) next
-leads_more Steps m middle next [] e h s = (next, subst (λ n. Steps n e next) h s, refl)
-leads_more Steps m middle next (x ∷ xs) e h s = (h.0, h.1, leads_more Steps h.0 middle next xs e h.2 s)
-
 words_more : (words : List ℕ) (journal : List Entry) (e : Entry) → gc_words_along words (journal ++ e ∷ []) ≡ reading (gc_words_along words journal) (gc_call_events (gc_words_along words journal) e.call e.reply)
 words_more words [] e = refl
 words_more words (x ∷ xs) e = words_more (reading words (gc_call_events words x.call x.reply)) xs e
-
--- how many entries are no Read
-
-count_if : (b : Bool) (m n : ℕ) → (if b then suc (m + n) else m + n) ≡ (if b then suc m else m) + n
-count_if true m n = let e : suc (m + n) ≡ suc m + n = omega arith in e
-count_if false m n = refl
-
-begun_append : (xs ys : List Entry) → begun_by (xs ++ ys) ≡ begun_by xs + begun_by ys
-begun_append [] ys = let e : begun_by ys ≡ 0 + begun_by ys = omega arith in e
-begun_append (x ∷ xs) ys = ap (λ (n : ℕ). if begins_call x.call then suc n else n) (begun_append xs ys) ∙ count_if (begins_call x.call) (begun_by xs) (begun_by ys)
-
-one_begun : (e : Entry) (b : Bool) → begins_call e.call ≡ b → begun_by (e ∷ []) ≡ (if b then 1 else 0)
-one_begun e b is = ap (λ (z : Bool). if z then 1 else 0) is
-
-risen_one : (b n : ℕ) → risen (risen b n) 1 ≡ risen b (n + 1)
-risen_one b n = omega arith
-
-plus_none : (n : ℕ) → n + 0 ≡ n
-plus_none n = omega arith
 
 -- a call that begins one on the memory did so
 pub begun_done : (old new : GcState) (call : Call) (reply : Reply) → begins_call call ≡ true → HasGcDone old new call reply → HasGcBegun old new call reply
@@ -174,15 +151,6 @@ module _ (header : PoolHeader) (journal : List Entry) (old new : GcState) (e : E
 
   pub behind_more : IsGcBehind header (journal ++ e ∷ []) new
   behind_more = ⊎_elim behind_call behind_read (cases_Bool (begins_call e.call))
-
--- no more calls begin than there are entries
-one_or_none : (b : Bool) (m n : ℕ) → m ≤ n → (if b then suc m else m) ≤ suc n
-one_or_none true m n le = omega (arith, le)
-one_or_none false m n le = omega (arith, le)
-
-begun_few : (journal : List Entry) → begun_by journal ≤ length journal
-begun_few [] = omega arith
-begun_few (e ∷ es) = one_or_none (begins_call e.call) (begun_by es) (length es) (begun_few es)
 
 -- the device of an arena that is behind a journal
 pub run_behind : (header : PoolHeader) (journal : List Entry) (now : GcState) → length journal < 2 ^ 63 → (behind : IsGcBehind header journal now) → HasGcRun header now.device journal behind.machine

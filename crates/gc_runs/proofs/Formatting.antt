@@ -3,18 +3,20 @@ use Rattle.std.proofs.Common.{◌≡◌, ℕ, ◌*◌, sym, ap, ◌∙◌, arith
 use Rattle.pmem_lines.specs.Words.{zeros}
 use Rattle.pmem_lines.specs.Pmem.{PmemState, words_of, began, appended, fresh, IsZeroed}
 use Rattle.pool_layout.specs.declared.header.PoolHeader.{PoolHeader}
+use Rattle.pool_layout.specs.declared.header.PoolVariant.TheVariants.{Gc}
 use Rattle.pool_layout.specs.Layout.{layout_of}
 use Rattle.heap_model.specs.Machine.{no_heap}
 use Rattle.heap_model.specs.Placement.{no_stacks}
 use Rattle.thread_cache.specs.Stacks.{stacks_of}
 use Rattle.heap_check.specs.Image.{header_in}
 use Rattle.arena_core.specs.Call.{IsReady}
-use Rattle.gc_check.specs.Header.{IsGcPoolHeader}
+use Rattle.pool_layout.specs.Header.{IsGcPoolHeader}
 use Rattle.gc_check.specs.Image.{IsGcExactImage}
 use Rattle.gc_check.specs.State.{HasGcState}
 use Rattle.gc_heap.specs.Arena.{GcState}
 use Rattle.gc_heap.specs.Events.{gc_format_events}
-use Rattle.gc_heap.proofs.Formats.{written, reading-format, header_is, IsGcFormatted-written}
+use Rattle.heap_check.proofs.Formatted.{header_is}
+use Rattle.arena_core.proofs.HeaderLines.{written, reading-line, formatted-written}
 use Rattle.pmem_lines.proofs.Words.{length-zeros, AreZeros-zeros}
 use Rattle.trace_text.specs.declared.call.PoolSize.{PoolSize}
 use Rattle.trace_runs.specs.Arenas.{header_for, bounds_for}
@@ -31,7 +33,7 @@ formatted_header : (header : PoolHeader) → IsGcPoolHeader header → header_in
 unfolding gc_formatted
 formatted_header header valid =
     let blank = zeros (2048 * header.granules) in
-    ap header_in (reading-format blank header) ∙ header_is (written blank header) header (IsGcFormatted-written blank header (AreZeros-zeros (2048 * header.granules)) valid (length-zeros (2048 * header.granules)))
+    ap header_in (reading-line Gc blank header) ∙ header_is Gc (written Gc blank header) header (formatted-written Gc blank header (AreZeros-zeros (2048 * header.granules)) valid (length-zeros (2048 * header.granules)))
 
 -- over a memory of zeros
 pub new_formatted : (header : PoolHeader) (device : PmemState) (arena : GcState) → IsGcPoolHeader header → IsZeroed device (256 * header.granules) (layout_of header.version).room →

@@ -1,5 +1,4 @@
 pub mod Premises
-pub mod HeaderLines
 pub mod StateWords
 pub mod Standing
 pub mod ClaimLists

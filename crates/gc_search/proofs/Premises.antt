@@ -6,7 +6,7 @@ use Rattle.pool_layout.specs.declared.defect.Defect.TheVariants.{BadLength}
 use Rattle.pool_layout.specs.Layout.{layout_of}
 use Rattle.pool_layout.proofs.Layouts.{layout_rules}
 use Rattle.pool_layout.specs.Places.{heap_word}
-use Rattle.pool_layout.specs.Header.{version_in, granules_in, fields_of}
+use Rattle.pool_layout.specs.Header.{version_in, granules_in, fields_of, IsGcHeader}
 use Rattle.pool_layout.proofs.Headers.{fields_of-header_word, header_fits}
 use Rattle.image_tables.specs.Extents.{extent_at}
 use Rattle.image_tables.specs.Tables.{Tables, is_slab, tables_of}
@@ -21,7 +21,6 @@ use Rattle.image_defects.proofs.Extents.{extents_lie}
 use Rattle.image_defects.proofs.Faultless.{one_kind_of}
 use Rattle.image_reading.specs.Extents.{HasExtents}
 use Rattle.image_reading.specs.Slabs.{IsSlabAt}
-use Rattle.gc_check.specs.Header.{IsGcHeader}
 use Rattle.gc_search.specs.Known.{IsLogRead}
 
 -- numbers of version 1
@@ -29,10 +28,6 @@ use Rattle.gc_search.specs.Known.{IsLogRead}
 pub first_roots : (version : ℕ) → version ≡ 1 → (layout_of version).roots ≡ 4096
 unfolding layout_of
 first_roots version is = rw is refl
-
-pub first_least : (version : ℕ) → version ≡ 1 → (layout_of version).least_granules ≡ 16
-unfolding layout_of
-first_least version is = rw is refl
 
 pub first_most : (version : ℕ) → version ≡ 1 → (layout_of version).most_granules ≡ 1024
 unfolding layout_of

@@ -1,11 +1,10 @@
 -- What a search needs, and what it has read of a sound image.
 use Rattle.std.specs.Prelude.{◌≡◌, ℕ, List}
-use Rattle.pool_layout.specs.Header.{granules_in}
+use Rattle.pool_layout.specs.Header.{granules_in, IsGcHeader}
 use Rattle.image_tables.specs.Tables.{tables_of}
 use Rattle.book_log.specs.Book.{Book}
 use Rattle.heap_check.specs.Image.{header_in}
 use Rattle.image_defects.specs.Log.{AreDisjoint}
-use Rattle.gc_check.specs.Header.{IsGcHeader}
 use Rattle.gc_check.specs.Heap.{gc_tables}
 use Rattle.gc_check.specs.Sound.{AreFewGcLoose}
 use Rattle.gc_check.specs.Image.{AreNormalSlabs, IsGcSoundImage}

@@ -2,13 +2,12 @@
 use Rattle.std.specs.Prelude.{◌≡◌, ◌≢◌, ℕ, ◌+◌, ◌/◌, ◌<◌, Bool, true, List}
 use Rattle.size_classes.specs.Classes.{class_capacity}
 use Rattle.pmem_lines.specs.Words.{word_at}
-use Rattle.pool_layout.specs.Header.{granules_in}
+use Rattle.pool_layout.specs.Header.{granules_in, IsGcHeader}
 use Rattle.image_tables.specs.Tables.{Tables, is_slab, state_word}
 use Rattle.book_log.specs.Book.{Book, Reads}
 use Rattle.heap_model.specs.Machine.{slab_block}
 use Rattle.heap_check.specs.Image.{header_in}
 use Rattle.image_defects.specs.Defects.{HasLength}
-use Rattle.gc_check.specs.Header.{IsGcHeader}
 use Rattle.gc_check.specs.Heap.{gc_tables}
 use Rattle.gc_check.specs.Sound.{IsGcStanding}
 use Rattle.gc_check.specs.Image.{IsNormalWord}

@@ -1,4 +1,3 @@
-pub mod Header
 pub mod Known
 pub mod Claims
 pub mod Pairs

@@ -8,7 +8,6 @@ ghost use Rattle.gc_search.specs.Names.{AreBlankNames, AreNamesOf};
 ghost use Rattle.gc_search.specs.Faults.{IfDefect};
 ghost use Rattle.gc_search.specs.Image.{IsRoomFor, HasGoodHeap, IsSoundBy, IsSoundWith};
 
-use crate::header::gc_header_of;
 use crate::log::{check_directory, check_entries, check_extents, check_length};
 use crate::loose::check_loose;
 use crate::roots::check_roots;
@@ -17,7 +16,7 @@ use crate::slabs::check_slabs;
 use crate::{GcFault, GcImage, GcNames, GcSearch};
 use book_log::BookLog;
 use defect_search::Claim;
-use pool_layout::Defect;
+use pool_layout::{Defect, gc_header_of};
 use std::alloc::Global;
 
 /// Looks for the first defect. The log comes to be that of the words, and the names come to be those of their roots.

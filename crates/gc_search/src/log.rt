@@ -3,7 +3,7 @@ ghost use Rattle.std.specs.Prelude.{◌<◌, length, OnOk, IfErr};
 ghost use Rattle.image_tables.specs.Tables.{tables_of};
 ghost use Rattle.image_defects.specs.Defects.{HasLength, IsLengthDefect};
 ghost use Rattle.image_defects.specs.Log.{HasDirectory, IsDirectoryDefect, HasEntries, IsEntryDefect, AreDisjoint, IsOverlapDefect};
-ghost use Rattle.gc_check.specs.Header.{IsGcHeader};
+ghost use Rattle.pool_layout.specs.Header.{IsGcHeader};
 ghost use Rattle.gc_search.specs.Known.{IsLogRead};
 
 use book_log::BookLog;

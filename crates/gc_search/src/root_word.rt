@@ -3,7 +3,7 @@ ghost use Rattle.std.specs.Prelude.{◌≡◌, ◌↔◌, ◌^◌, ◌<◌, IsTr
 ghost use Rattle.gc_check.specs.Heap.{address_field, class_field, IsGcRootWord};
 
 /// The address that a word has.
-pub(crate) fn address_of(word: u64) -> u64
+pub fn address_of(word: u64) -> u64
     ensures field { result ≡ address_field word }
     ensures few { result < 2 ^ 32 }
 {
@@ -11,7 +11,7 @@ pub(crate) fn address_of(word: u64) -> u64
 }
 
 /// The class and one, 0 for a large block.
-pub(crate) fn class_field_of(word: u64) -> u8
+pub fn class_field_of(word: u64) -> u8
     ensures { result ≡ class_field word }
 {
     ((word >> 32) % 256) as u8

@@ -3,7 +3,7 @@ ghost use Rattle.std.specs.Prelude.{◌<◌};
 
 use crate::answers::{answer_of, bad_slab, shared, stray_root};
 use crate::values::same;
-use check_tests::{Put, blank, put};
+use check_tests::{Put, blank, put, put_entry, set};
 use pmem_lines::OutOfMemory;
 use std::alloc::Global;
 use std::test::Fail;
@@ -17,25 +17,6 @@ const LARGEST: [Put; 3] = [
 
 // How many slabs the heap may have. Slab k begins at granule 4 + 4k.
 const SLABS: u64 = 255;
-
-// Puts a word into an image, where it has one.
-fn set(words: &mut [u64], at: u64, value: u64) {
-    if at < words.len() as u64 {
-        words[at as usize] = value;
-    }
-}
-
-// Puts an entry of the log's list, of which each chunk has 120, into its place.
-fn put_entry(words: &mut [u64], number: u64, entry: u64)
-    requires { number < 960 }
-{
-    let own = number % 120;
-    set(
-        words,
-        6152 + 128 * (number / 120) + 8 * (own % 15) + own / 15,
-        entry,
-    );
-}
 
 // Has a root hold a block of 16 bytes of a slab, by its number.
 fn hold(words: &mut [u64], root: u64, slab: u64, block: u64)

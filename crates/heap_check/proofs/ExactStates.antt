@@ -1,31 +1,17 @@
 -- The state of an exact image is free of overlaps.
-use Rattle.std.proofs.Common.{◌≡◌, ◌≢◌, ◌⊎◌, ℕ, ◌+◌, ◌*◌, ◌<◌, ◌≤◌, Bool, true, false, cond, refl, sym, ap, ◌∙◌, arith, inl, inr, ⊎_elim, Some, None}
-use Rattle.heap_check.proofs.Common.{cases_Bool, cases_lt, class_size-most, Tables, tables_of, root_table-past, Bounds, Range, Machine, IsLarge, LiesIn, IsOverlapFree}
+use Rattle.std.proofs.Common.{◌≡◌, ◌⊎◌, ℕ, ◌<◌, ◌≤◌, true, false, refl, sym, ap, ◌∙◌, arith, inl, inr, ⊎_elim, Some}
+use Rattle.heap_check.proofs.Common.{cases_Bool, cases_lt, class_size-most, Tables, tables_of, root_table-past, Bounds, Range, Machine, IsOverlapFree}
 use Rattle.heap_check.proofs.Sizes.{sizes_of}
 use Rattle.heap_check.specs.Heap.{entry_at, heap, slabs, IsClaim, HoldsBit, HoldsOld}
 use Rattle.heap_check.specs.Laws.{LawOfExactState}
 use Rattle.heap_check.specs.Sound.{IsSound}
 use Rattle.heap_check.proofs.Claims.{plain_size, IsNamed-claim}
-use Rattle.heap_check.proofs.Geometry.{granules_at-slab, granules_at-large, Covers-slab, plain_size-start}
+use Rattle.heap_check.proofs.Geometry.{granules_at-slab, granules_at-large, plain_size-start}
 use Rattle.heap_check.proofs.Heaps.{IsClaim-heap}
 use Rattle.heap_check.proofs.LargeLogs.{large_many}
+use Rattle.heap_check.proofs.OverlapFree.{IsSmall, IsWhole, overlap_free}
 use Rattle.heap_check.proofs.SmallPlaces.{Holds-claim}
 use Rattle.heap_check.proofs.Within.{IsWithin-claim, IsWithin-start}
-
--- a block in a slab
-record IsSmall (t : Tables) (range : Range) : Type 0 where
-  start : ℕ
-  slab : t.slab start ≡ true
-  lies : LiesIn start range
-  size : range.size ≤ 16384
-
--- the block of a large extent
-record IsWhole (t : Tables) (range : Range) : Type 0 where
-  start : ℕ
-  no_slab : t.slab start ≡ false
-  many : 2 ≤ t.large start
-  at : range.at ≡ 16384 * start
-  size : range.size ≡ 16384 * t.large start
 
 -- sound tables in which no entry is open, each large extent has two granules at least, and only so many roots have a word
 module _ {b : Bounds} {t : Tables} (sound : IsSound b t) (unnamed : (root : ℕ) → entry_at t.open_entry root ≡ 0) (many : (start : ℕ) → 0 < t.large start → 2 ≤ t.large start) (past : (root : ℕ) → b.roots ≤ root → t.root root ≡ 0) where
@@ -44,6 +30,7 @@ module _ {b : Bounds} {t : Tables} (sound : IsSound b t) (unnamed : (root : ℕ)
         start = start;
         slab = slab;
         lies = record { low = lies.low; high = omega (arith, lies.high, four) };
+        some = lies.some;
         size = ⊎_elim
             (λ (bit : HoldsBit (t.header start) start range). omega (arith, ap (λ (x : Range). x.size) bit.is, class_size-most (t.header start).class state.is_class))
             (λ (old : HoldsOld (t.header start) start range). omega (arith, ap (λ (x : Range). x.size) old.is, class_size-most (t.header start).old state.is_old_class))
@@ -61,51 +48,13 @@ module _ {b : Bounds} {t : Tables} (sound : IsSound b t) (unnamed : (root : ℕ)
     claim : (root : ℕ) (range : Range) → m.block root ≡ Some range → IsClaim t root range
     claim root range named = IsClaim-heap t root range (unnamed root) (blocks root ∙ named)
 
-    large_kind : (root : ℕ) (range : Range) → m.block root ≡ Some range → IsLarge range → IsWhole t range
-    large_kind root range named large = ⊎_elim (λ (small : IsSmall t range). absurd (omega (arith, large, small.size))) (λ whole. whole) (block_kinds root range (claim root range named))
-
-    slab : (start class : ℕ) → m.slab start ≡ Some class → t.slab start ≡ true
-    slab start class named = by (t.slab start) (classes start ∙ named)
-      where
-        by : (is : Bool) → cond is (Some (t.header start).class) None ≡ Some class → is ≡ true
-        by true named = refl
-        by false named = cc
-
-    slab_apart : (s k c d : ℕ) → s ≢ k → m.slab s ≡ Some c → m.slab k ≡ Some d → s ≤ k → s + 4 ≤ k
-    slab_apart s k c d differ first second before = ⊎_elim
-        (λ (meets : k < s + 4). absurd (differ (sound.extents.disjoint s k k (Covers-slab t s k (slab s c first) before meets) (Covers-slab t k k (slab k d second) (omega arith) (omega arith)))))
-        (λ past. past)
-        (cases_lt k (s + 4))
-
-    pub IsOverlapFree-sound : IsOverlapFree b m
-    IsOverlapFree-sound = record {
-      apart = λ root other range another differ first second. sound.owned.apart root other range another differ (claim root range first) (claim other another second);
-      rooted = λ root range named. ⊎_elim
-          (λ below. below)
-          (λ (beyond : b.roots ≤ root). let is = IsNamed-claim t root range (unnamed root) (claim root range named) in absurd (is.some (sym is.word ∙ past root beyond)))
-          (cases_lt root b.roots);
-      sized = λ root range named. (IsWithin-claim sound root range (unnamed root) (claim root range named)).1.some;
-      slabs = λ s c named. let four = granules_at-slab t s (slab s c named) in let bounds = sound.extents.starts s (omega (arith, four)) in (bounds.0, omega (arith, bounds.1, four));
-      slabs_apart = λ s k c d differ first second. ⊎_elim
-          (λ (before : s < k). inl (slab_apart s k c d differ first second (omega arith)))
-          (λ (behind : k ≤ s). inr (slab_apart k s d c (λ same. differ (sym same)) second first behind))
-          (cases_lt s k);
-      small = λ root range named little. ⊎_elim
-          (λ (small : IsSmall t range). (small.start, (t.header small.start).class, sym (classes small.start) ∙ ap (λ is. cond is (Some (t.header small.start).class) None) small.slab, small.lies))
-          (λ (whole : IsWhole t range). absurd (little (omega (arith, whole.size, whole.many))))
-          (block_kinds root range (claim root range named));
-      large = λ root range named large.
-          let whole = large_kind root range named large in
-          let size = granules_at-large t whole.start whole.no_slab in
-          let bounds = sound.extents.starts whole.start (omega (arith, size, whole.many)) in
-          record { start = whole.start; count = t.large whole.start; at = whole.at; size = whole.size; low = bounds.0; high = omega (arith, bounds.1, size) };
-      clear = λ root range s c k named large is low high meets.
-          let whole = large_kind root range named large in
-          let size = granules_at-large t whole.start whole.no_slab in
-          let slab = slab s c is in
-          let same = sound.extents.disjoint s whole.start k (Covers-slab t s k slab low high) (record { low = omega (arith, meets.begins, meets.ends, whole.at, whole.size); high = omega (arith, meets.ends, whole.at, whole.size, size) }) in
-          omega (arith, whole.many, ap t.large same, sound.extents.one_kind s slab);
-    }
+    IsOverlapFree-sound : IsOverlapFree b m
+    IsOverlapFree-sound = overlap_free b t sound.extents m classes (λ root range named. block_kinds root range (claim root range named))
+        (λ root range named. ⊎_elim
+        (λ below. below)
+        (λ (beyond : b.roots ≤ root). let is = IsNamed-claim t root range (unnamed root) (claim root range named) in absurd (is.some (sym is.word ∙ past root beyond)))
+        (cases_lt root b.roots))
+        (λ root other range another differ first second. sound.owned.apart root other range another differ (claim root range first) (claim other another second))
 
 pub law_of_exact_state : LawOfExactState
 law_of_exact_state words m image state =

@@ -4,7 +4,7 @@ use Rattle.std.proofs.lemmas.Nat.{mul-le}
 use Rattle.heap_check.proofs.Common.{cases_eq, eq-eqb, eqb-true, ltb-true, lt-ltb, cond-true, cond-false, and_parts, and_from, false_from_ne_true, class_size, class_capacity, class_size-least, SlabHeader, Tables, tables_of, is_slab_of, Bounds, slab_block, LiesIn-block, put_at, put_at-other, extent_at, Extent, slab_table, large_table}
 use Rattle.book_log.specs.Live.{granules_of}
 use Rattle.heap_check.specs.Heap.{slab_of, is_large, is_old}
-use Rattle.heap_check.specs.Sound.{granules_at, Covers, IsInSlab, IsValidSlab, IsSound}
+use Rattle.heap_check.specs.Sound.{granules_at, Covers, AreExtents, IsInSlab, IsValidSlab, IsSound}
 use Rattle.heap_check.proofs.Claims.{plain_size}
 
 -- extents
@@ -54,25 +54,28 @@ pub plain_size-start : (t : Tables) (start count : ℕ) → t.large start ≡ co
 plain_size-start t start count is some =
     plain_size-large t (16384 * start) (is_large-start t.large start (omega (arith, is, some))) ∙ ap (λ k. 16384 * t.large k) (granule_of-start start) ∙ ap (λ n. 16384 * n) is
 
+-- a granule lies in one slab
+pub slab_of-extents : {b : Bounds} (t : Tables) → AreExtents b t.large t.slab → (start k : ℕ) → t.slab start ≡ true → start ≤ k → k < start + 4 → slab_of t.slab k ≡ start
+unfolding slab_of
+slab_of-extents {b} t extents start k slab low high =
+    let here : Covers t start k = Covers-slab t start k slab low high in
+    let step : (is : Bool) (m rest : ℕ) → t.slab m ≡ is → m ≤ k → k < m + 4 → (is ≡ false → rest ≡ start) → cond is m rest ≡ start =
+    λ is m rest. elim is as (λ is. t.slab m ≡ is → m ≤ k → k < m + 4 → (is ≡ false → rest ≡ start) → cond is m rest ≡ start) [
+      | true ↦ λ is from to next. extents.disjoint m start k (Covers-slab t m k is from to) here
+      | false ↦ λ is from to next. next refl
+    ] in
+    step (t.slab k) k _ refl (omega arith) (omega arith) (λ none.
+    step (t.slab (k - 1)) (k - 1) _ refl (omega arith) (omega arith) (λ none_1.
+    step (t.slab (k - 2)) (k - 2) _ refl (omega arith) (omega arith) (λ none_2.
+    let elsewhere : (m : ℕ) → t.slab m ≡ false → m ≢ start = λ m none same. true≢false (sym slab ∙ ap t.slab (sym same) ∙ none) in
+    omega (arith, elsewhere k none, elsewhere (k - 1) none_1, elsewhere (k - 2) none_2))))
+
 module _ {b : Bounds} {t : Tables} (sound : IsSound b t) where
   pub granules_at-live : (start : ℕ) → 0 < t.large start → granules_at t start ≡ t.large start
   granules_at-live start some = granules_at-large t start (false_from_ne_true (t.slab start) (λ slab. omega (arith, sound.extents.one_kind start slab)))
 
-  -- a granule lies in one slab
   pub slab_of-here : (start k : ℕ) → t.slab start ≡ true → start ≤ k → k < start + 4 → slab_of t.slab k ≡ start
-  unfolding slab_of
-  slab_of-here start k slab low high =
-      let here : Covers t start k = Covers-slab t start k slab low high in
-      let step : (is : Bool) (m rest : ℕ) → t.slab m ≡ is → m ≤ k → k < m + 4 → (is ≡ false → rest ≡ start) → cond is m rest ≡ start =
-      λ is m rest. elim is as (λ is. t.slab m ≡ is → m ≤ k → k < m + 4 → (is ≡ false → rest ≡ start) → cond is m rest ≡ start) [
-        | true ↦ λ is from to next. sound.extents.disjoint m start k (Covers-slab t m k is from to) here
-        | false ↦ λ is from to next. next refl
-      ] in
-      step (t.slab k) k _ refl (omega arith) (omega arith) (λ none.
-      step (t.slab (k - 1)) (k - 1) _ refl (omega arith) (omega arith) (λ none_1.
-      step (t.slab (k - 2)) (k - 2) _ refl (omega arith) (omega arith) (λ none_2.
-      let elsewhere : (m : ℕ) → t.slab m ≡ false → m ≢ start = λ m none same. true≢false (sym slab ∙ ap t.slab (sym same) ∙ none) in
-      omega (arith, elsewhere k none, elsewhere (k - 1) none_1, elsewhere (k - 2) none_2))))
+  slab_of-here = slab_of-extents t sound.extents
 
   -- no large extent starts in a slab
   pub is_large-slab : (start at : ℕ) → IsInSlab t start at → is_large t.large at ≡ false

@@ -29,6 +29,7 @@ pub mod SlabHeaps
 pub mod BlockWords
 pub mod SlabLogs
 pub mod LargeLogs
+pub mod OverlapFree
 pub mod ExactStates
 pub mod LiveCounts
 pub mod NormalSlabs

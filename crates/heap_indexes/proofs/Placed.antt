@@ -11,17 +11,9 @@ use Rattle.heap_indexes.proofs.LiveBlocks.{lives_raised, normal_taken, strangers
 use Rattle.block_supply.proofs.Takes.{none_open}
 use Rattle.bit_words.specs.Numbers.{has}
 use Rattle.heap_indexes.specs.Kept.{IsOnlySlab, HasTaken, WasFull}
-use Rattle.unit_map.proofs.StateUnits.{units_with_large}
+use Rattle.unit_map.proofs.StateUnits.{units_with_large, block_on_units}
 use Rattle.heap_indexes.proofs.LargeBlocks.{supply_with, lives_with, strangers_with}
 use Rattle.heap_model.proofs.Placing.{rows_apart}
-
--- a block of a slab begins and ends with a unit
-pub block_on_units : (s c i : ℕ) → c < 36 → IsOnUnits (slab_block s c i)
-block_on_units s c i known =
-    let u = class_size c / 16 in
-    let size : class_size c ≡ 16 * u = omega (arith, class_size-aligned c known) in
-    let part : i * class_size c ≡ 16 * (i * u) = ap (λ n. i * n) size ∙ omega arith in
-    record { begins = omega (arith, part); ends = class_size-aligned c known }
 
 -- a slab, by the supply
 pub record IsSlabIn (b : Bounds) (m : Machine) (s class : ℕ) : Type 0 where

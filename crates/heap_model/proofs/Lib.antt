@@ -16,3 +16,4 @@ pub mod SoundStacks
 pub mod Outcomes
 pub mod Counts
 pub mod LeftSlabs
+pub mod Ranks

@@ -4,6 +4,7 @@ pub mod LogDefects
 pub mod SlabDefects
 pub mod WalDefects
 pub mod BlockDefects
+pub mod DefectClasses
 pub mod Order
 pub mod Extents
 pub mod Faultless

@@ -1,9 +1,10 @@
 -- The header line, the log and its extents: an image without a class of defects has none, and it has one first at most.
 use Rattle.std.proofs.Common.{◌≡◌, ◌≢◌, ℕ, ◌<◌, ◌≤◌, List, sym, ap, subst, ◌∙◌, arith, ⊎_elim}
 use Rattle.std.proofs.lemmas.Bool.{cases_eq, cases_lt}
+use Rattle.pool_layout.specs.declared.header.PoolVariant.{PoolVariant}
 use Rattle.pool_layout.specs.declared.defect.Defect.{Defect}
 use Rattle.pool_layout.specs.declared.defect.Defect.TheVariants.{BadDirectory, BadEntry, Overlap}
-use Rattle.pool_layout.specs.Header.{granules_in, version_in, IsPoolFields, IsHeader, IsHeaderDefect}
+use Rattle.pool_layout.specs.Header.{granules_in, version_in, IsPoolFields, IsHeaderLine, IsLineDefect}
 use Rattle.image_tables.specs.Tables.{tables_of}
 use Rattle.book_log.specs.Log.{IsChunk, logged}
 use Rattle.heap_check.specs.Image.{header_in}
@@ -14,16 +15,16 @@ use Rattle.image_defects.proofs.LeastNumbers.{least_once}
 
 -- header
 
-pub header_bad : (words : List ℕ) (d : Defect) → IsHeaderDefect words d → ¬ (IsHeader words (header_in words))
-header_bad words d is header = ⊎_elim
+pub header_bad : (variant : PoolVariant) (words : List ℕ) (d : Defect) → IsLineDefect variant words d → ¬ (IsHeaderLine variant words (header_in words))
+header_bad variant words d is header = ⊎_elim
     (λ short. omega (arith, short.0, header.whole))
     (λ line. ⊎_elim (λ text. text.0 header.text) (λ fields. fields.1 (header_in words, header.valid, header.word)) line.1)
     is
 
-pub header_once : (words : List ℕ) (d e : Defect) → IsHeaderDefect words d → IsHeaderDefect words e → d ≡ e
-header_once words d e is also = ⊎_elim
+pub header_once : (variant : PoolVariant) (words : List ℕ) (d e : Defect) → IsLineDefect variant words d → IsLineDefect variant words e → d ≡ e
+header_once variant words d e is also = ⊎_elim
     (λ short. ⊎_elim (λ other. short.1 ∙ sym other.1) (λ line. absurd (omega (arith, short.0, line.0))) also)
-    (λ line. ⊎_elim (λ short. absurd (omega (arith, short.0, line.0))) (λ other. one_bad_line words IsPoolFields d e line.1 other.1) also)
+    (λ line. ⊎_elim (λ short. absurd (omega (arith, short.0, line.0))) (λ other. one_bad_line variant words (IsPoolFields variant) d e line.1 other.1) also)
     is
 
 -- directory

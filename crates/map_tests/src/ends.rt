@@ -1,10 +1,11 @@
 // The other ways in which a run ends: words that are none, and ends that fail.
-use crate::images::{EMPTY, SMALL, image_of};
+use crate::images::{EMPTY, SMALL};
 use crate::runs::{ends, tells};
 use nvheap::{MemSink, MemSource, Status, SureSource};
 use std::alloc::Global;
 use std::process::Abort;
 use std::test::Fail;
+use worked_runs::image_of;
 
 const NO_WORDS: [&str; 5] = ["", "texts", "dump 16 0", "dump 0 05", "repair 0"];
 

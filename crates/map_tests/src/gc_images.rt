@@ -1,5 +1,5 @@
 // Images of the GC variant made by hand, of arenas of 16 granules.
-use crate::images::Run;
+use worked_runs::Run;
 
 /// An arena that has nothing.
 pub(crate) const GC_EMPTY: [Run; 3] = [

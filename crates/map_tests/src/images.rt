@@ -1,8 +1,5 @@
 // Images of the LOG variant made by hand, of arenas whose heaps have 12 granules.
-use std::alloc::{AllocError, Global};
-
-/// Bytes of an image: where they begin, and what they are.
-pub(crate) type Run = (usize, &'static [u8]);
+use worked_runs::Run;
 
 /// The bytes of an arena of 16 granules, and of one of version 2 of 25.
 pub(crate) const SMALL: usize = 262144;
@@ -83,23 +80,7 @@ pub(crate) const CUT_OFF: [Run; 7] = [
     (65600, &[1]),
 ];
 
-/// A large block of 8 granules, of root 0, and a slab behind it that took class 19 and was of class 3 before: root 1 holds
-/// block 0 of class 3, and root 2 block 1 of class 19. No granule is free.
-pub(crate) const IN_TRANSITION: [Run; 11] = [
-    (0, b"NVALLOG1"),
-    (8, &[1, 0, 0, 0, 16, 0, 1, 0]),
-    (16, &[1]),
-    (16386, &[1]),
-    (16393, &[8, 3]),
-    (16401, &[12, 3]),
-    (49216, &[1, 4, 0, 8]),
-    (49280, &[2, 12]),
-    (196608, &[3, 19, 3, 1]),
-    (196736, &[1]),
-    (197184, &[1]),
-];
-
-/// The same of version 2.
+/// `IN_TRANSITION` of `worked_runs`, of version 2.
 pub(crate) const IN_TRANSITION_2: [Run; 11] = [
     (0, b"NVALLOG1"),
     (8, &[2, 0, 0, 0, 25, 0, 1, 0]),
@@ -125,28 +106,3 @@ pub(crate) const TWO: [Run; 8] = [
     (278569, &[128, 1]),
     (311360, &[1, 6, 0, 2]),
 ];
-
-/// So many bytes, of which those of a row are not 0.
-pub(crate) fn image_of(alloc: Global, size: usize, runs: &[Run]) -> Result<Vec<u8>, AllocError> {
-    let mut bytes = vec![in alloc; 0u8; size]?;
-    lay(&mut bytes, runs);
-    Ok(bytes)
-}
-
-/// Puts the runs of a row into an image.
-pub(crate) fn lay(bytes: &mut [u8], runs: &[Run]) {
-    for (at, run) in runs {
-        put(bytes, *at, run);
-    }
-}
-
-// Puts a run into an image, as far as it lies inside.
-fn put(bytes: &mut [u8], at: usize, run: &[u8]) {
-    for (i, byte) in run.iter().enumerate() {
-        if let Some(place) = at.checked_add(i) {
-            if place < bytes.len() {
-                bytes[place] = *byte;
-            }
-        }
-    }
-}

@@ -1,11 +1,12 @@
 // Images of the LOG variant made by hand, and what each word says of them.
 use crate::images::{
-    CUT_OFF, EMPTY, EMPTY_2, FULL, FULL_2, IN_TRANSITION, IN_TRANSITION_2, ONE_BLOCK, ONE_BLOCK_2,
-    SMALL, SMALL_2, TWO,
+    CUT_OFF, EMPTY, EMPTY_2, FULL, FULL_2, IN_TRANSITION_2, ONE_BLOCK, ONE_BLOCK_2, SMALL, SMALL_2,
+    TWO,
 };
 use crate::runs::tells;
 use crate::table::{ALL, LOG, LOG_2, NOTHING, ONE_SMALL, Row, Shown, all_hold};
 use std::test::Fail;
+use worked_runs::IN_TRANSITION;
 
 /// A large block, and a slab with a block of its class and one of the class before.
 const TURNED: Shown = Shown {

@@ -1,13 +1,11 @@
 // Images with a defect, which every word refuses by the same line.
 use crate::gc_images::{GC_EMPTY, MIXED};
-use crate::images::{
-    CUT_OFF, EMPTY, EMPTY_2, IN_TRANSITION, ONE_BLOCK, ONE_BLOCK_2, Run, SMALL, SMALL_2, TWO,
-    image_of, lay,
-};
+use crate::images::{CUT_OFF, EMPTY, EMPTY_2, ONE_BLOCK, ONE_BLOCK_2, SMALL, SMALL_2, TWO};
 use crate::runs::tells_of;
 use std::alloc::Global;
 use std::process::Abort;
 use std::test::Fail;
+use worked_runs::{IN_TRANSITION, Run, image_of, lay};
 
 /// An image, what is put into it, and the line of its defect.
 #[derive(Drop)]

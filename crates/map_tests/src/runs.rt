@@ -1,5 +1,4 @@
 // How a run over memory ends, and what it writes.
-use crate::images::{Run, image_of};
 use nvheap::{KeptShelf, MemSink, OpenGate, Sink, Source, Status, SureSource, run};
 use nvpool::operate;
 use std::alloc::{AllocError, Global};
@@ -8,6 +7,7 @@ use std::str;
 use std::sync::Wait;
 use std::test::Fail;
 use std::thread::Threads;
+use worked_runs::{Run, image_of};
 
 // The words of a line, as the program gets them.
 fn words_of(alloc: Global, line: &str) -> Result<Vec<String>, AllocError> {

@@ -1,10 +1,10 @@
 // What is said of a sound image under each word. All images here are of arenas whose heaps have 12 granules.
-use crate::images::{Run, image_of};
 use crate::pictures::makes;
 use crate::runs::{tells_of, written};
 use std::alloc::{AllocError, Global};
 use std::process::Abort;
 use std::test::Fail;
+use worked_runs::{Run, image_of};
 
 /// The length of an output, and its sum, as examples/pictures.sh prints them.
 pub(crate) type Weight = (usize, u32);

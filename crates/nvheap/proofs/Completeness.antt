@@ -1,43 +1,16 @@
 -- Without a fault a command is done on what it accepts, or wants memory.
-use Rattle.std.proofs.Common.{◌≡◌, ◌⊎◌, ℕ, ◌+◌, List, [], ◌++◌, length, length-append, Option, Some, None, refl, sym, ap, ◌∙◌, subst, inl, inr, arith}
-use Rattle.std.proofs.lemmas.List.{append-nil}
+use Rattle.std.proofs.Common.{◌≡◌, ◌⊎◌, ℕ, List, refl, subst, inl, inr}
 use Rattle.nvheap.specs.declared.command.Command.{Command}
 use Rattle.nvheap.specs.declared.cause.Cause.{Cause}
 use Rattle.program_io.specs.declared.status.Status.{Status}
 use Rattle.program_io.specs.declared.status.Status.TheVariants as ends
 use Rattle.nvheap.specs.Outside.{Outside}
-use Rattle.program_io.specs.Streams.{Gives}
-use Rattle.program_io.specs.Inputs.{limit_of, HasLeft, HasRead, HasReadMore}
+use Rattle.program_io.specs.Inputs.{limit_of}
 use Rattle.nvheap.specs.Meaning.{Meaning}
 use Rattle.nvheap.specs.Command.{meaning_of, IsCommand, IsSaid}
 use Rattle.nvheap.specs.Ends.{Ends, HasAcceptable}
+use Rattle.program_io.proofs.Whole.{one_input, not_more}
 use Rattle.nvheap.proofs.Table.{settled, said_holds}
-
--- one input
-
--- what was read of a source that told its bytes is what it had
-gives_all : (input after read : List ℕ) → input ≡ read ++ after → after ≡ [] → read ≡ input
-gives_all input after read is none = sym (append-nil read) ∙ ap (λ (rest : List ℕ). read ++ rest) (sym none) ∙ sym is
-
-one_input : (limit : Option ℕ) (left after : Option (List ℕ)) (input read : List ℕ) → HasLeft limit left input → HasRead limit left after read → read ≡ input
-one_input None left after input read has was = was.0 ∙ sym has
-one_input (Some n) left None input read has was =
-    let gives : Gives (Some input) None read = subst (λ (o : Option (List ℕ)). Gives o None read) has.0 was.0.gives in
-    absurd gives
-one_input (Some n) left (Some after) input read has was =
-    let gives : Gives (Some input) (Some after) read = subst (λ (o : Option (List ℕ)). Gives o (Some after) read) has.0 was.0.gives in
-    gives_all input after read gives was.0.ended
-
--- a source that had an input within the limit does not give more
-not_more : (limit : Option ℕ) (left after : Option (List ℕ)) (input : List ℕ) → HasLeft limit left input → ¬ (HasReadMore limit left after)
-not_more None left after input has more = more
-not_more (Some n) left None input has more =
-    let gives : Gives (Some input) None more.bytes = subst (λ (o : Option (List ℕ)). Gives o None more.bytes) has.0 more.gives in
-    gives
-not_more (Some n) left (Some after) input has more =
-    let gives : Gives (Some input) (Some after) more.bytes = subst (λ (o : Option (List ℕ)). Gives o (Some after) more.bytes) has.0 more.gives in
-    let many : length more.bytes ≡ n + 1 = more.many in
-    omega (arith, has.1, many, ap length gives, length-append more.bytes after)
 
 -- how a command ends on what it accepts, where neither the source nor the sink failed
 ends_well : (m : Meaning) → ((input : List ℕ) (why : Cause) → m.accepts input → ¬ (m.refuses input why)) → (old new : Outside) (status : Status) → Ends m old new status → HasAcceptable m old.left → ¬ (status ≡ ends.ReadFault) → ¬ (status ≡ ends.WriteFault) →

@@ -1,6 +1,7 @@
 -- The arenas of a pool, recovered one after another from one on.
 use Rattle.std.proofs.Common.{◌≡◌, ◌⊎◌, ℕ, suc, ◌+◌, ◌-◌, ◌<◌, ◌≤◌, List, ◌++◌, Option, sym, ap, subst, ◌∙◌, inl, inr, ⊎_elim, [], arith, refl}
 use Rattle.std.proofs.lemmas.Bool.{cases_lt}
+use Rattle.pool_layout.specs.declared.header.PoolVariant.TheVariants.{Log}
 use Rattle.nvheap.proofs.Common.{PmemState, fresh, PoolHeader, part_of, header_of_arena, IsFirstHeader, IsPoolImage, IsImageOf, IfDefect, layout_of, layout_rules, fields_of-header_word, header_fits, IsSoundImage, HasVersionRoom, IsRecovered, recovered_device, HasUnsoundFrom, IsOwnDefect, IsPoolDefect, heap_lines, heaps_from, wider}
 use Rattle.pool_layout.specs.declared.defect.Defect.{Defect as Found}
 use Rattle.pool_layout.specs.declared.image.ImageFault.{ImageFault}
@@ -80,7 +81,7 @@ unsound_of_pool bytes words image fault =
     }))
 
 -- an arena of a pool has so many granules at most
-pub few_granules : (header : PoolHeader) → IsFirstHeader header → header.granules ≤ 4096
+pub few_granules : (header : PoolHeader) → IsFirstHeader Log header → header.granules ≤ 4096
 few_granules header first = omega (arith, first.valid.greatest, (layout_rules header.version).most)
 
 -- a device that has the words of one of them, and the room of the pool's version

@@ -1,12 +1,9 @@
 -- What is accepted is not refused: traces, images of pools, and scripts.
-use Rattle.std.proofs.Common.{◌≡◌, ℕ, ◌+◌, ◌*◌, ◌≤◌, List, sym, ap, ◌∙◌, subst, inl, inr, arith}
-use Rattle.pmem_lines.specs.Words.{word_at}
-use Rattle.nvheap.proofs.Common.{PoolHeader, part_of, IsPoolImage, IsImageOf, header_fits, fields_of-header_word, faultless_of, no_defect, HasUnsoundFrom, IsPoolDefect, BadLine, NoArena, NoEvent, PoolSize, TraceCall, header_for, DictCall}
+use Rattle.std.proofs.Common.{◌≡◌, ℕ, List, sym, ap, ◌∙◌, subst, inl, inr, arith}
+use Rattle.nvheap.proofs.Common.{PoolHeader, part_of, IsImageOf, faultless_of, no_defect, HasUnsoundFrom, IsPoolDefect, BadLine, NoArena, NoEvent, PoolSize, TraceCall, header_for, DictCall}
+use Rattle.pool_layout.specs.declared.header.PoolVariant.TheVariants.{Log}
 use Rattle.pool_layout.specs.declared.defect.Defect.{Defect}
-use Rattle.pool_layout.specs.Header.{header_word, fields_of}
-use Rattle.pool_layout.specs.Places.{fields_word}
-use Rattle.pool_layout.proofs.Images.{some_granules, word_at-part_of}
-use Rattle.pool_layout.proofs.OneImage.{law_of_no_defect}
+use Rattle.pool_layout.proofs.OneImage.{law_of_no_defect, one_header}
 use Rattle.trace_runs.specs.Calls.{calls_of}
 use Rattle.trace_text.specs.Laws.{LawOfOneText, LawOfNoneOutside}
 use Rattle.trace_crashes.specs.Crash.{HasFewerIn}
@@ -23,34 +20,18 @@ use Rattle.nvheap.specs.ScriptCrashing.{HasScriptEvents, RefusesDictCrash}
 
 -- images
 
--- the words of a pool have one header
-header_said : (words : List ℕ) (header : PoolHeader) → IsPoolImage words header → header ≡ fields_of (word_at words fields_word)
-header_said words header pool =
-    let some : 1 ≤ header.granules = some_granules header pool.first.valid in
-    let next : 2048 * header.granules * 0 + 1 ≡ 1 = omega arith in
-    let word = word_at-part_of words header.granules 0 1 (omega (arith, some)) ∙ ap (word_at words) next in
-    let line = pool.each 0 (omega (arith, pool.first.valid.some)) in
-    let first = ap (λ n. header_word (record { version = header.version; number = n; arenas = header.arenas; granules = header.granules })) (sym pool.first.number) in
-    sym (fields_of-header_word header (header_fits header pool.first.valid)) ∙ ap fields_of (sym (sym word ∙ line.word ∙ first))
-
--- an image has one header
-one_header : (input words other : List ℕ) (image : IsImageOf input words) (another : IsImageOf input other) → another.header ≡ image.header
-one_header input words other image another =
-    let same : other ≡ words = another.words_are ∙ sym image.words_are in
-    header_said other another.header another.pool ∙ ap (λ (ws : List ℕ). fields_of (word_at ws fields_word)) same ∙ sym (header_said words image.header image.pool)
-
 -- of sound arenas none has a defect
 sound_not_unsound : (input words : List ℕ) (image : IsImageOf input words) (arena : ℕ) (defect : Defect) (all : HasSoundArenas input) → ¬ (HasUnsoundFrom words image.header 0 arena defect)
 sound_not_unsound input words image arena defect all un =
     let same : words ≡ all.words = image.words_are ∙ sym all.image.words_are in
     let unsound : HasUnsoundFrom all.words all.image.header 0 arena defect =
-    subst (λ (h : PoolHeader). HasUnsoundFrom all.words h 0 arena defect) (one_header input all.words words all.image image) (subst (λ (ws : List ℕ). HasUnsoundFrom ws image.header 0 arena defect) same un) in
+    subst (λ (h : PoolHeader). HasUnsoundFrom all.words h 0 arena defect) (one_header Log input words all.words image all.image) (subst (λ (ws : List ℕ). HasUnsoundFrom ws image.header 0 arena defect) same un) in
     no_defect (part_of all.words all.image.header.granules arena) defect
     (faultless_of (part_of all.words all.image.header.granules arena) (all.sound arena unsound.inside)) unsound.first
 
 -- a pool of sound arenas has no defect
 sound_not_refused : (input : List ℕ) (arena : ℕ) (defect : Defect) → HasSoundArenas input → ¬ (IsPoolDefect input arena defect)
-sound_not_refused input arena defect all (inl is) = law_of_no_defect input all.words arena defect all.image is
+sound_not_refused input arena defect all (inl is) = law_of_no_defect Log input all.words arena defect all.image is
 sound_not_refused input arena defect all (inr un) = sound_not_unsound input un.words un.image arena defect all un.unsound
 
 -- so `check` and `recover` refuse nothing
@@ -62,10 +43,10 @@ image_not_refused input (Version version) all refused = refused
 -- where it is of version 1, `migrate` refuses nothing
 pub migrate_not_refused : (input : List ℕ) (why : Cause) → HasSoundFirst input → ¬ (RefusesMigrate input why)
 migrate_not_refused input (Text refusal) has refused = refused
-migrate_not_refused input (Image arena defect) has (inl is) = law_of_no_defect input has.arenas.words arena defect has.arenas.image is
+migrate_not_refused input (Image arena defect) has (inl is) = law_of_no_defect Log input has.arenas.words arena defect has.arenas.image is
 migrate_not_refused input (Image arena defect) has (inr un) = sound_not_unsound input un.words un.image arena defect has.arenas un.unsound
 migrate_not_refused input (Version version) has later =
-    let same = one_header input has.arenas.words later.words has.arenas.image later.image in
+    let same = one_header Log input has.arenas.words later.words has.arenas.image later.image in
     omega (arith, ap (λ (h : PoolHeader). h.version) same, later.is, later.later, has.first)
 
 -- traces

@@ -1,6 +1,7 @@
 -- The table of commands: it says of words one command at most, and what a command accepts it does not refuse.
-use Rattle.std.proofs.Common.{◌≡◌, ◌==◌, ℕ, ◌+◌, ◌*◌, List, [], ◌∷◌, length, map, get_or, Option, Some, None, if◌then◌else◌, refl, sym, ap, ◌∙◌, subst, codes}
-use Rattle.nvheap.proofs.Common.{decimal, decimal_injective}
+use Rattle.std.proofs.Common.{◌≡◌, ◌==◌, ℕ, ◌+◌, ◌*◌, List, ◌∷◌, length, get_or, Option, Some, None, if◌then◌else◌, refl, subst, codes}
+use Rattle.program_io.proofs.Sayings.{IsTable}
+use Rattle.program_io.proofs.Sayings as sayings
 use Rattle.nvheap.specs.declared.cause.Cause.{Cause}
 use Rattle.nvheap.specs.declared.command.Command.{Command}
 use Rattle.nvheap.specs.declared.command.Command.TheVariants.{Replay, Image, Check, Recover, Crash, Gen, Migrate, Dict, DictCrash, Serve, Gc, GcCrash}
@@ -8,7 +9,7 @@ use Rattle.trace_text.specs.Grammar.{trace_lines, still_lines}
 use Rattle.trace_text.proofs.OneMeaning.{law_of_one_trace, law_of_no_refusal, law_of_one_still_trace, law_of_no_still_refusal}
 use Rattle.nvheap.specs.Meaning.{Meaning}
 use Rattle.nvheap.specs.Crashing.{log_arenas, gc_arenas}
-use Rattle.nvheap.specs.Command.{row_of, meaning_of, AreNumbers, IsCommand, IsNoCommand, IsSaid}
+use Rattle.nvheap.specs.Command.{row_of, meaning_of, IsCommand, IsNoCommand, IsSaid}
 use Rattle.nvheap.proofs.Refusals.{trace_not_refused, image_not_refused, crash_not_refused, migrate_not_refused, script_not_refused, dict_crash_not_refused}
 
 -- a row for each command
@@ -66,33 +67,20 @@ settled (GcCrash arena event seed) input why has = crash_not_refused gc_arenas l
 
 -- one command
 
--- numbers are read back from their texts
-numbers_once : (ns ms : List ℕ) → AreNumbers ns → AreNumbers ms → map decimal ns ≡ map decimal ms → ns ≡ ms
-numbers_once [] [] p q same = refl
-numbers_once [] (m ∷ ms) p q same = absurd (cc)
-numbers_once (n ∷ ns) [] p q same = absurd (cc)
-numbers_once (n ∷ ns) (m ∷ ms) p q same =
-    let first : decimal n ≡ decimal m = cc in
-    let rest : map decimal ns ≡ map decimal ms = cc in
-    cc (decimal_injective n m p.0 q.0 first, numbers_once ns ms p.1 q.1 rest)
+table : IsTable row_of
+table = record { find = λ text numbers. command_by (key text) numbers; found = back }
 
 pub one_command : (words : List (List ℕ)) (a b : Command) → IsCommand words a → IsCommand words b → a ≡ b
-one_command words a b p q =
-    let text : (row_of a).text ≡ (row_of b).text = cc (p.text, q.text) in
-    let texts : map decimal (row_of a).numbers ≡ map decimal (row_of b).numbers = cc (p.text, q.text) in
-    let numbers = numbers_once (row_of a).numbers (row_of b).numbers p.numbers q.numbers texts in
-    let both : Some a ≡ Some b = sym (back a) ∙ ap (λ t. command_by (key t) (row_of a).numbers) text ∙ ap (command_by (key (row_of b).text)) numbers ∙ back b in
-    cc both
+one_command = sayings.one_command row_of table
 
 -- what holds of the meaning of the command that words say holds of that of each that they say
 pub said_holds : (words : List (List ℕ)) (command : Command) (Holds : Meaning → Type 0) → IsCommand words command → IsSaid words Holds → Holds (meaning_of command)
-said_holds words command Holds said is = subst (λ (c : Command). Holds (meaning_of c)) (one_command words is.command command is.said said) is.holds
+said_holds = sayings.said_holds row_of table
 
 -- the command that words say whose first is known
 by_first : (text : List ℕ) (rest : List (List ℕ)) (command : Command) → IsCommand (text ∷ rest) command → command_by (key text) (row_of command).numbers ≡ Some command
-by_first text rest command said =
-    let same : text ≡ (row_of command).text = cc (said.text) in
-    ap (λ t. command_by (key t) (row_of command).numbers) same ∙ back command
+unfolding table
+by_first = sayings.by_first row_of table
 
 -- words of which the first is `gen` say generated work, or no command
 pub no_gen : (rest : List (List ℕ)) → ((count seed : ℕ) → ¬ (IsCommand (codes "gen" ∷ rest) (Gen count seed))) → IsNoCommand (codes "gen" ∷ rest)

@@ -1,5 +1,6 @@
 -- The words of the program.
-use Rattle.std.specs.Prelude.{◌≡◌, ℕ, ◌<◌, ◌≤◌, ◌^◌, List, [], ◌∷◌, map, decimal, codes}
+use Rattle.std.specs.Prelude.{ℕ, ◌<◌, ◌≤◌, List, [], ◌∷◌, codes}
+use Rattle.program_io.specs.Words.{Row, alone, Says, SaysOne}
 use Rattle.nvheap.specs.declared.command.Command.{Command}
 use Rattle.nvheap.specs.declared.command.Command.TheVariants.{Replay, Image, Check, Recover, Crash, Gen, Migrate, Dict, DictCrash, Serve, Gc, GcCrash}
 use Rattle.nvheap.specs.Meaning.{Meaning}
@@ -15,19 +16,8 @@ use Rattle.nvheap.specs.ScriptCrashing.{script_crashing}
 use Rattle.nvheap.specs.Serving.{serving}
 use Rattle.nvheap.specs.GcReporting.{gc_reporting}
 
--- a command: its first word, the numbers behind it and which they may be, and what it means
-pub record Row : Type 1 where
-  pub text : List ℕ
-  pub numbers : List ℕ
-  pub fits : Type 0
-  pub meaning : Meaning
-
--- a command of one word
-abbrev pub alone : List ℕ → Meaning → Row
-alone text meaning = record { text = text; numbers = []; fits = Unit {0}; meaning = meaning }
-
 -- the table: each command has one row
-abbrev pub row_of : Command → Row
+abbrev pub row_of : Command → Row Meaning
 row_of Replay = alone (codes "replay") replaying
 row_of Image = alone (codes "image") imaging
 row_of Check = alone (codes "check") checking
@@ -45,23 +35,14 @@ row_of (GcCrash arena event seed) = record { text = codes "gc-crash"; numbers = 
 abbrev pub meaning_of : Command → Meaning
 meaning_of command = (row_of command).meaning
 
--- each of these numbers has 64 bits
-abbrev pub AreNumbers : List ℕ → Type 0
-AreNumbers [] = Unit {0}
-AreNumbers (number ∷ numbers) = (number < 2 ^ 64) × AreNumbers numbers
-
--- the words say this command: its first word, and its numbers, each in its one decimal form
-pub record IsCommand (words : List (List ℕ)) (command : Command) : Type 0 where
-  pub text : words ≡ (row_of command).text ∷ map decimal (row_of command).numbers
-  pub numbers : AreNumbers (row_of command).numbers
-  pub fits : (row_of command).fits
+-- the words say this command
+abbrev pub IsCommand : List (List ℕ) → Command → Type 0
+IsCommand words command = Says (row_of command) words
 
 -- the words say no command
 abbrev pub IsNoCommand : List (List ℕ) → Type 0
 IsNoCommand words = (command : Command) → ¬ (IsCommand words command)
 
 -- the words say a command, of whose meaning this holds
-pub record IsSaid (words : List (List ℕ)) (Holds : Meaning → Type 0) : Type 0 where
-  pub command : Command
-  pub said : IsCommand words command
-  pub holds : Holds (meaning_of command)
+abbrev pub IsSaid : List (List ℕ) → (Meaning → Type 0) → Type 0
+IsSaid words Holds = SaysOne row_of words Holds

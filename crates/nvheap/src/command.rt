@@ -1,8 +1,8 @@
 // The words of the program.
-ghost use Rattle.std.specs.Prelude.{◌≡◌, ◌↔◌, [], ◌∷◌, IsTrue, codes, map, string_bytes, MatchOption};
+ghost use Rattle.std.specs.Prelude.{◌≡◌, [], ◌∷◌, codes, map, string_bytes, MatchOption};
 ghost use Rattle.nvheap.specs.Command.{meaning_of, IsCommand, IsNoCommand};
 
-use program_io::Kind;
+use program_io::{Kind, is_word};
 use trace_text::whole_number;
 
 /// What the words after the program's name ask for.
@@ -128,13 +128,6 @@ fn with_three(word: &String, first: &[u8], second: &[u8], third: &[u8]) -> Optio
         return gc_crash_of(first, second, third);
     }
     None
-}
-
-// The word is this text.
-fn is_word(word: &String, text: &str) -> bool
-    ensures { IsTrue result ↔ (string_bytes word.now ≡ text.now) }
-{
-    word.as_str() == text
 }
 
 // The crash that these three numbers ask for, if they are numbers.

@@ -12,7 +12,8 @@ use Rattle.heap_check.specs.Image.{bounds_of, IsExactImage, IsSteadyImage}
 use Rattle.image_tables.specs.Tables.{tables_of}
 use Rattle.heap_check.proofs.Blank.{law_of_steady}
 use Rattle.heap_check.proofs.Formatted.{law_of_formatted}
-use Rattle.arena_core.proofs.Formats.{written, reading-format, IsFormatted-written}
+use Rattle.pool_layout.specs.declared.header.PoolVariant.TheVariants.{Log}
+use Rattle.arena_core.proofs.HeaderLines.{written, reading-line, formatted-written}
 use Rattle.trace_text.specs.declared.call.PoolSize.{PoolSize}
 use Rattle.trace_text.specs.declared.call.TraceCall.{TraceCall}
 use Rattle.trace_text.specs.Grammar.{IsPool}
@@ -34,8 +35,8 @@ formatted_steady : (header : PoolHeader) → IsPoolHeader header → IsSteadyIma
 unfolding formatted
 formatted_steady header valid =
     let none = zeros (2048 * header.granules) in
-    let exact = (law_of_formatted (written none header) header (IsFormatted-written none header (AreZeros-zeros (2048 * header.granules)) valid (length-zeros (2048 * header.granules)))).0 in
-    exact_steady (formatted header) (subst IsExactImage (sym (reading-format none header)) exact)
+    let exact = (law_of_formatted (written Log none header) header (formatted-written Log none header (AreZeros-zeros (2048 * header.granules)) valid (length-zeros (2048 * header.granules)))).0 in
+    exact_steady (formatted header) (subst IsExactImage (sym (reading-line Log none header)) exact)
 
 left_steady : (words : List ℕ) → IsSteadyImage words → (number : ℕ) (stages : List Stage) (event seed : ℕ) (left : CrashLeft) → IsLeft log words number stages event seed left → IsSteadyImage left.image
 left_steady words steady number [] event seed left is = subst IsSteadyImage (sym is.image) steady

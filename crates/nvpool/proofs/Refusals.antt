@@ -3,12 +3,12 @@ use Rattle.std.proofs.Common.{◌≡◌, ℕ, ◌<◌, List, sym, ap, subst, ◌
 use Rattle.pool_layout.specs.declared.header.PoolHeader.{PoolHeader}
 use Rattle.pool_layout.specs.declared.defect.Defect.{Defect}
 use Rattle.pool_layout.specs.Image.{part_of}
-use Rattle.pool_layout.proofs.OneImage.{law_of_no_defect}
+use Rattle.pool_layout.specs.declared.header.PoolVariant.TheVariants.{Log, Gc}
+use Rattle.pool_layout.proofs.OneImage.{law_of_no_defect, one_header}
 use Rattle.image_defects.proofs.Faultless.{faultless_of}
 use Rattle.image_defects.proofs.Order.{no_defect}
 use Rattle.gc_check.proofs.Faultless.{faultless_of as gc_faultless_of}
 use Rattle.gc_check.proofs.Order.{no_defect as no_gc_defect}
-use Rattle.gc_pool.proofs.NoDefect.{no_image_defect, one_header as one_gc_header}
 use Rattle.trace_text.proofs.OneMeaning.{law_of_one_trace, law_of_no_refusal}
 use Rattle.nvheap.specs.Crashing.{log_arenas, HasEvents}
 use Rattle.nvheap.specs.declared.cause.Cause.TheVariants as causes
@@ -19,7 +19,6 @@ use Rattle.nvpool.specs.Rules.{PoolRules, log_pools, gc_pools}
 use Rattle.nvpool.specs.Telling.{IsPoolDefect, HasSoundArenas, RefusesImage}
 use Rattle.nvpool.specs.Dumping.{HasArena, HasNoBlock, HasBlock, RefusesDump}
 use Rattle.nvpool.specs.Cutting.{RefusesCut}
-use Rattle.nvpool.proofs.Images.{one_header}
 
 -- an image has its words and one header, and it is not none; sound words have no defect
 pub record AreSettled (r : PoolRules) : Type 0 where
@@ -31,16 +30,16 @@ pub record AreSettled (r : PoolRules) : Type 0 where
 pub log_settled : AreSettled log_pools
 log_settled = record {
   one_words = λ input words other header another image second. image.0.words_are ∙ sym second.0.words_are;
-  one_header = λ input words other header another image second. sym image.1 ∙ one_header input words other image.0 second.0 ∙ second.1;
-  some = λ input words header arena defect image. law_of_no_defect input words arena defect image.0;
+  one_header = λ input words other header another image second. sym image.1 ∙ one_header Log input words other image.0 second.0 ∙ second.1;
+  some = λ input words header arena defect image. law_of_no_defect Log input words arena defect image.0;
   faultless = λ words defect sound. no_defect words defect (faultless_of words sound);
 }
 
 pub gc_settled : AreSettled gc_pools
 gc_settled = record {
   one_words = λ input words other header another image second. image.0.words_are ∙ sym second.0.words_are;
-  one_header = λ input words other header another image second. sym image.1 ∙ one_gc_header input words other image.0 second.0 ∙ second.1;
-  some = λ input words header arena defect image. no_image_defect input words image.0 arena defect;
+  one_header = λ input words other header another image second. sym image.1 ∙ one_header Gc input words other image.0 second.0 ∙ second.1;
+  some = λ input words header arena defect image. law_of_no_defect Gc input words arena defect image.0;
   faultless = λ words defect sound. no_gc_defect words defect (gc_faultless_of words sound);
 }
 

@@ -2,11 +2,10 @@
 use Rattle.std.proofs.Common.{◌≡◌, ℕ, ◌*◌, ◌<◌, List, length, sym, ap, subst, ◌∙◌, arith}
 use Rattle.pool_layout.specs.declared.header.PoolHeader.{PoolHeader}
 use Rattle.pool_layout.specs.Bytes.{words_of_bytes}
-use Rattle.pool_layout.specs.Header.{fields_of, IsHeader}
+use Rattle.pool_layout.specs.Header.{fields_of, IsHeader, IsGcHeader}
 use Rattle.pool_layout.specs.Image.{part_of, header_of_arena}
 use Rattle.pool_layout.proofs.Headers.{fields_of-header_word, header_fits}
 use Rattle.pool_layout.proofs.Words.{words_of_bytes-bytes_of_words, length-bytes_of_words}
-use Rattle.gc_check.specs.Header.{IsGcHeader}
 use Rattle.image_runs.specs.Repairs.{IsRepaired}
 use Rattle.image_runs.proofs.Repairs.{HasParts}
 use Rattle.nvpool.specs.GcRepairs.{IsGcRepaired}

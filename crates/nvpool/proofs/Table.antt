@@ -1,14 +1,14 @@
 -- The table of commands: it says of words one command at most, and what a command accepts it does not refuse.
-use Rattle.std.proofs.Common.{◌≡◌, ◌==◌, ℕ, ◌+◌, ◌*◌, List, [], ◌∷◌, length, map, get_or, Option, Some, None, if◌then◌else◌, refl, sym, ap, ◌∙◌, subst}
-use Rattle.std.proofs.lemmas.Fmt.{decimal_injective}
-use Rattle.std.specs.Prelude.{decimal}
-use Rattle.nvheap.specs.Command.{AreNumbers}
+use Rattle.std.proofs.Common.{◌≡◌, ◌==◌, ℕ, ◌+◌, ◌*◌, List, length, get_or, Option, Some, None, if◌then◌else◌, refl}
+use Rattle.program_io.proofs.Sayings.{IsTable}
+use Rattle.program_io.proofs.Sayings as sayings
 use Rattle.nvpool.specs.declared.cause.Cause.{Cause}
 use Rattle.nvpool.specs.declared.command.Command.{Command}
 use Rattle.nvpool.specs.declared.command.Command.TheVariants.{Map, Text, Info, Dump, Cut, Repair}
 use Rattle.nvpool.specs.Meaning.{Meaning}
 use Rattle.nvpool.specs.Command.{row_of, meaning_of, IsCommand, IsSaid}
-use Rattle.gc_pool.proofs.NoDefect.{text_of}
+use Rattle.pool_layout.specs.declared.header.PoolVariant.TheVariants.{Gc}
+use Rattle.pool_layout.proofs.OneImage.{image_text}
 use Rattle.nvpool.specs.declared.telling.Form.{Form}
 use Rattle.nvpool.specs.declared.telling.Form.TheVariants.{Numbers, Letters, Picture}
 use Rattle.nvpool.specs.Rules.{log_pools, gc_pools}
@@ -48,16 +48,16 @@ back Repair = refl
 
 told_settled : (form : Form) (input : List ℕ) (why : Cause) → (telling form).accepts input → ¬ ((telling form).refuses input why)
 told_settled form =
-    either_settled (telling_by log_pools form) (telling_by gc_pools form) (image_not_refused log_pools log_settled) (image_not_refused gc_pools gc_settled) (λ input has. log_text input has.words has.image.0) (λ input has. text_of input has.words has.image.0)
+    either_settled (telling_by log_pools form) (telling_by gc_pools form) (image_not_refused log_pools log_settled) (image_not_refused gc_pools gc_settled) (λ input has. log_text input has.words has.image.0) (λ input has. image_text Gc input has.words has.image.0)
 
 dump_settled : (arena root : ℕ) (input : List ℕ) (why : Cause) → (dumping arena root).accepts input → ¬ ((dumping arena root).refuses input why)
 dump_settled arena root =
     either_settled (dumping_by log_pools arena root) (dumping_by gc_pools arena root) (λ input. dump_not_refused log_pools log_settled input arena root) (λ input. dump_not_refused gc_pools gc_settled input arena root)
-    (λ input has. log_text input has.words has.image.0) (λ input has. text_of input has.words has.image.0)
+    (λ input has. log_text input has.words has.image.0) (λ input has. image_text Gc input has.words has.image.0)
 
 repair_settled : (input : List ℕ) (why : Cause) → repairing.accepts input → ¬ (repairing.refuses input why)
 repair_settled =
-    either_settled (repairing_by log_pools) (repairing_by gc_pools) (image_not_refused log_pools log_settled) (image_not_refused gc_pools gc_settled) (λ input has. log_text input has.words has.image.0) (λ input has. text_of input has.words has.image.0)
+    either_settled (repairing_by log_pools) (repairing_by gc_pools) (image_not_refused log_pools log_settled) (image_not_refused gc_pools gc_settled) (λ input has. log_text input has.words has.image.0) (λ input has. image_text Gc input has.words has.image.0)
 
 pub settled : (command : Command) (input : List ℕ) (why : Cause) → (meaning_of command).accepts input → ¬ ((meaning_of command).refuses input why)
 settled Map input why has = told_settled Picture input why has
@@ -69,24 +69,9 @@ settled Repair input why has = repair_settled input why has
 
 -- one command
 
--- numbers are read back from their texts
-numbers_once : (ns ms : List ℕ) → AreNumbers ns → AreNumbers ms → map decimal ns ≡ map decimal ms → ns ≡ ms
-numbers_once [] [] p q same = refl
-numbers_once [] (m ∷ ms) p q same = absurd (cc)
-numbers_once (n ∷ ns) [] p q same = absurd (cc)
-numbers_once (n ∷ ns) (m ∷ ms) p q same =
-    let first : decimal n ≡ decimal m = cc in
-    let rest : map decimal ns ≡ map decimal ms = cc in
-    cc (decimal_injective n m p.0 q.0 first, numbers_once ns ms p.1 q.1 rest)
-
-one_command : (words : List (List ℕ)) (a b : Command) → IsCommand words a → IsCommand words b → a ≡ b
-one_command words a b p q =
-    let text : (row_of a).text ≡ (row_of b).text = cc (p.text, q.text) in
-    let texts : map decimal (row_of a).numbers ≡ map decimal (row_of b).numbers = cc (p.text, q.text) in
-    let numbers = numbers_once (row_of a).numbers (row_of b).numbers p.numbers q.numbers texts in
-    let both : Some a ≡ Some b = sym (back a) ∙ ap (λ t. command_by (key t) (row_of a).numbers) text ∙ ap (command_by (key (row_of b).text)) numbers ∙ back b in
-    cc both
+table : IsTable row_of
+table = record { find = λ text numbers. command_by (key text) numbers; found = back }
 
 -- what holds of the meaning of the command that words say holds of that of each that they say
 pub said_holds : (words : List (List ℕ)) (command : Command) (Holds : Meaning → Type 0) → IsCommand words command → IsSaid words Holds → Holds (meaning_of command)
-said_holds words command Holds said is = subst (λ (c : Command). Holds (meaning_of c)) (one_command words is.command command is.said said) is.holds
+said_holds = sayings.said_holds row_of table

@@ -4,7 +4,7 @@ use Rattle.std.specs.Result.{IfOk}
 use Rattle.pmem_lines.specs.Words.{word_at}
 use Rattle.pool_layout.specs.Places.{text_word}
 use Rattle.pool_layout.specs.Image.{AreWordsOf}
-use Rattle.gc_check.specs.Header.{gc_text}
+use Rattle.pool_layout.specs.Header.{gc_text}
 use Rattle.program_io.specs.declared.answer.Answer.{Answer}
 use Rattle.program_io.specs.declared.answer.Answer.TheVariants.{Output, FaultLine}
 use Rattle.nvpool.specs.declared.cause.Cause.{Cause}

@@ -1,6 +1,6 @@
 -- The words of the program.
-use Rattle.std.specs.Prelude.{◌≡◌, ℕ, ◌<◌, List, [], ◌∷◌, map, decimal, codes}
-use Rattle.nvheap.specs.Command.{AreNumbers}
+use Rattle.std.specs.Prelude.{ℕ, ◌<◌, List, [], ◌∷◌, codes}
+use Rattle.program_io.specs.Words.{Row, alone, Says, SaysOne}
 use Rattle.nvpool.specs.declared.command.Command.{Command}
 use Rattle.nvpool.specs.declared.command.Command.TheVariants.{Map, Text, Info, Dump, Cut, Repair}
 use Rattle.nvpool.specs.Meaning.{Meaning}
@@ -10,19 +10,8 @@ use Rattle.nvpool.specs.Dumping.{dumping}
 use Rattle.nvpool.specs.Cutting.{cutting}
 use Rattle.nvpool.specs.Repairing.{repairing}
 
--- a command: its first word, the numbers behind it and which they may be, and what it means
-pub record Row : Type 1 where
-  pub text : List ℕ
-  pub numbers : List ℕ
-  pub fits : Type 0
-  pub meaning : Meaning
-
--- a command of one word
-abbrev pub alone : List ℕ → Meaning → Row
-alone text meaning = record { text = text; numbers = []; fits = Unit {0}; meaning = meaning }
-
 -- the table: each command has one row
-abbrev pub row_of : Command → Row
+abbrev pub row_of : Command → Row Meaning
 row_of Map = alone (codes "map") (telling Picture)
 row_of Text = alone (codes "text") (telling Letters)
 row_of Info = alone (codes "info") (telling Numbers)
@@ -34,18 +23,14 @@ row_of Repair = alone (codes "repair") repairing
 abbrev pub meaning_of : Command → Meaning
 meaning_of command = (row_of command).meaning
 
--- the words say this command: its first word, and its numbers, each in its one decimal form
-pub record IsCommand (words : List (List ℕ)) (command : Command) : Type 0 where
-  pub text : words ≡ (row_of command).text ∷ map decimal (row_of command).numbers
-  pub numbers : AreNumbers (row_of command).numbers
-  pub fits : (row_of command).fits
+-- the words say this command
+abbrev pub IsCommand : List (List ℕ) → Command → Type 0
+IsCommand words command = Says (row_of command) words
 
 -- the words say no command
 abbrev pub IsNoCommand : List (List ℕ) → Type 0
 IsNoCommand words = (command : Command) → ¬ (IsCommand words command)
 
 -- the words say a command, of whose meaning this holds
-pub record IsSaid (words : List (List ℕ)) (Holds : Meaning → Type 0) : Type 0 where
-  pub command : Command
-  pub said : IsCommand words command
-  pub holds : Holds (meaning_of command)
+abbrev pub IsSaid : List (List ℕ) → (Meaning → Type 0) → Type 0
+IsSaid words Holds = SaysOne row_of words Holds

@@ -2,10 +2,9 @@
 use Rattle.std.specs.Prelude.{◌≡◌, ℕ, ◌*◌, ◌≤◌, List, length}
 use Rattle.pool_layout.specs.declared.header.PoolHeader.{PoolHeader}
 use Rattle.pool_layout.specs.declared.defect.Defect.{Defect}
-use Rattle.pool_layout.specs.Image.{IsImageOf, IsImageDefect}
+use Rattle.pool_layout.specs.Image.{IsImageOf, IsImageDefect, IsGcImageOf, IsGcImageDefect}
 use Rattle.image_defects.specs.Defects.{IsFirstDefect}
 use Rattle.gc_check.specs.Defects.{IsFirstGcDefect}
-use Rattle.gc_pool.specs.Image.{IsGcImageOf, IsGcImageDefect}
 use Rattle.heap_map.specs.Rules.{MapRules}
 use Rattle.heap_map.specs.LogRules.{log_rules}
 use Rattle.gc_map.specs.GcRules.{gc_rules}

@@ -3,7 +3,7 @@ use Rattle.std.specs.Prelude.{◌≡◌, ◌⊎◌, ℕ, List}
 use Rattle.pmem_lines.specs.Words.{word_at}
 use Rattle.pool_layout.specs.Places.{text_word}
 use Rattle.pool_layout.specs.Bytes.{words_of_bytes}
-use Rattle.gc_check.specs.Header.{gc_text}
+use Rattle.pool_layout.specs.Header.{gc_text}
 use Rattle.program_io.specs.declared.input.Kind.TheVariants as kinds
 use Rattle.nvpool.specs.Meaning.{Meaning}
 

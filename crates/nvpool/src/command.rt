@@ -1,8 +1,8 @@
 // The words of the program.
-ghost use Rattle.std.specs.Prelude.{◌≡◌, ◌↔◌, [], ◌∷◌, IsTrue, codes, map, string_bytes, MatchOption};
+ghost use Rattle.std.specs.Prelude.{◌≡◌, [], ◌∷◌, codes, map, string_bytes, MatchOption};
 ghost use Rattle.nvpool.specs.Command.{meaning_of, IsCommand, IsNoCommand};
 
-use program_io::Kind;
+use program_io::{Kind, is_word};
 use trace_text::whole_number;
 
 /// What the words after the program's name ask for.
@@ -73,13 +73,6 @@ fn plain_command(word: &String) -> Option<Command>
         return Some(Command::Repair);
     }
     None
-}
-
-// The word is this text.
-fn is_word(word: &String, text: &str) -> bool
-    ensures { IsTrue result ↔ (string_bytes word.now ≡ text.now) }
-{
-    word.as_str() == text
 }
 
 // The words of a block that these two numbers ask for, if they are numbers.

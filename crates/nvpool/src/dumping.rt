@@ -8,12 +8,11 @@ ghost use Rattle.nvpool.specs.Ends.{IsAnswer, IsArenaAnswer, IsDumpAnswer};
 use crate::answer::fault_line;
 use crate::cause::Cause;
 use crate::variant::{Gc, Log, Variant};
-use gc_pool::has_gc_text;
 use heap_map::RootBlock;
 use image_check::CheckFault;
 use map_text::write_dump;
 use pmem_lines::OutOfMemory;
-use pool_layout::parts;
+use pool_layout::{has_gc_text, parts};
 use program_io::Answer;
 use std::alloc::Global;
 

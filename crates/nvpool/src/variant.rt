@@ -10,13 +10,12 @@ ghost use Rattle.heap_map.specs.Blocks.{IsRootBlock};
 ghost use Rattle.nvpool.specs.Rules.{ArePoolWords};
 
 use gc_map::{gc_block_of, gc_map_of};
-use gc_pool::gc_pool_header;
 use gc_recover::recover_device;
 use gc_search::GcFault;
 use heap_map::{HeapMap, RootBlock, block_of, map_of};
 use image_check::CheckFault;
 use pmem_lines::SimPmem;
-use pool_layout::{ArenaDefect, PoolHeader, pool_header};
+use pool_layout::{ArenaDefect, PoolHeader, gc_pool_header, pool_header};
 use recover::{RecoverFault, recover};
 use std::alloc::Global;
 

@@ -1,21 +1,22 @@
 -- Laws of images: bytes are an image or have a first defect, and never both; bytes and words undo each other.
 use Rattle.std.specs.Prelude.{◌≡◌, ◌⊎◌, ℕ, ◌*◌, ◌%◌, ◌<◌, ◌^◌, List, ◌++◌, length}
 use Rattle.std.specs.List.{All}
+use Rattle.pool_layout.specs.declared.header.PoolVariant.{PoolVariant}
 use Rattle.pool_layout.specs.declared.defect.Defect.{Defect}
 use Rattle.pool_layout.specs.Bytes.{words_of_bytes, bytes_of_words}
-use Rattle.pool_layout.specs.Image.{IsImageOf, IsImageDefect}
+use Rattle.pool_layout.specs.Image.{IsImageIn, IsDefectIn}
 
--- bytes are an image, or they have a defect
+-- bytes are an image of a variant, or they have a defect as such
 abbrev pub LawOfImages : Type 0
-LawOfImages = (bytes : List ℕ) → ((words : List ℕ) × IsImageOf bytes words) ⊎ ((arena : ℕ) × (defect : Defect) × IsImageDefect bytes arena defect)
+LawOfImages = (variant : PoolVariant) (bytes : List ℕ) → ((words : List ℕ) × IsImageIn variant bytes words) ⊎ ((arena : ℕ) × (defect : Defect) × IsDefectIn variant bytes arena defect)
 
 -- an image has no defect
 abbrev pub LawOfNoDefect : Type 0
-LawOfNoDefect = (bytes words : List ℕ) (arena : ℕ) (defect : Defect) → IsImageOf bytes words → ¬ (IsImageDefect bytes arena defect)
+LawOfNoDefect = (variant : PoolVariant) (bytes words : List ℕ) (arena : ℕ) (defect : Defect) → IsImageIn variant bytes words → ¬ (IsDefectIn variant bytes arena defect)
 
 -- bytes have one first defect at most
 abbrev pub LawOfOneDefect : Type 0
-LawOfOneDefect = (bytes : List ℕ) (arena other : ℕ) (defect another : Defect) → IsImageDefect bytes arena defect → IsImageDefect bytes other another → (arena ≡ other) × (defect ≡ another)
+LawOfOneDefect = (variant : PoolVariant) (bytes : List ℕ) (arena other : ℕ) (defect another : Defect) → IsDefectIn variant bytes arena defect → IsDefectIn variant bytes other another → (arena ≡ other) × (defect ≡ another)
 
 -- words are read back from their bytes
 abbrev pub LawOfWordsOfBytes : Type 0

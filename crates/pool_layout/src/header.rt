@@ -1,9 +1,18 @@
 // The header line of an arena.
 
 ghost use Rattle.std.specs.Prelude.{◌≡◌, ◌≤◌, ◌↔◌, length, IsTrue, IfOk, IfErr, MatchResult};
-ghost use Rattle.pool_layout.specs.Header.{header_text, header_word, fields_of, FitsWord, IsPoolHeader, IsHeader, HasBadText, IsSecondWord, IsHeaderDefect};
+ghost use Rattle.pmem_lines.specs.Words.{word_at};
+ghost use Rattle.pool_layout.specs.Places.{text_word};
+ghost use Rattle.pool_layout.specs.Header.{header_text, gc_text, text_of, header_word, fields_of, FitsWord, IsPoolHeader, IsHeaderFor, IsHeaderLine, IsHeader, IsGcHeader, HasBadText, IsSecondWord, IsLineDefect, IsHeaderDefect, IsGcHeaderDefect};
 
 use crate::{Defect, POOL_GRANULES, all_granules, is_version, layout_of};
+
+/// The variants of arenas, which the text of a header line tells.
+#[derive(Clone, Copy)]
+pub enum PoolVariant {
+    Log,
+    Gc,
+}
 
 /// What the header line of an arena says: the version of the layout, the arena's number, how many arenas the pool has,
 /// and how many granules of 16384 bytes this one has.
@@ -15,20 +24,40 @@ pub struct PoolHeader {
     pub granules: u32,
 }
 
-/// The first word of the header line: the text `NVALLOG1`, as it stands in the image.
+/// The first word of the header line of an arena of the LOG variant: the text `NVALLOG1`, as it stands in the image.
 pub fn header_text() -> u64
     ensures { result ≡ header_text }
 {
     u64::from_le_bytes(*b"NVALLOG1")
 }
 
-// The second word of a header line, where the first is the text; else that one is bad.
-pub(crate) fn second_word(words: &[u64]) -> Result<u64, Defect>
+/// The first word of the header lines of a variant: that text, or `NVALGC01`.
+pub fn text_of(variant: PoolVariant) -> u64
+    ensures { result ≡ text_of variant }
+{
+    match variant {
+        PoolVariant::Log => header_text(),
+        PoolVariant::Gc => u64::from_le_bytes(*b"NVALGC01"),
+    }
+}
+
+/// The words begin with the text of the GC variant.
+pub fn has_gc_text(words: &[u64]) -> bool
+    ensures { IsTrue result ↔ (word_at words.now text_word ≡ gc_text) }
+{
+    if words.len() == 0 {
+        return false;
+    }
+    words[0] == text_of(PoolVariant::Gc)
+}
+
+// The second word of a header line, where the first is the variant's text; else that one is bad.
+pub(crate) fn second_word(variant: PoolVariant, words: &[u64]) -> Result<u64, Defect>
     requires { 8 ≤ length words.now }
-    ensures { MatchResult result (IsSecondWord words.now) (HasBadText words.now) }
+    ensures { MatchResult result (IsSecondWord variant words.now) (HasBadText variant words.now) }
 {
     let text = words[0];
-    if text != header_text() {
+    if text != text_of(variant) {
         return Err(Defect::BadHeader {
             word: 0,
             value: text,
@@ -48,7 +77,7 @@ pub fn header_word(header: &PoolHeader) -> u64
 }
 
 // What the second word of a header line says.
-pub(crate) fn fields_of(word: u64) -> PoolHeader
+fn fields_of(word: u64) -> PoolHeader
     ensures fields { result ≡ fields_of word }
     ensures inverse { header_word result ≡ word }
 {
@@ -60,8 +89,8 @@ pub(crate) fn fields_of(word: u64) -> PoolHeader
     }
 }
 
-// A pool may have this header.
-pub(crate) fn is_pool_header(header: &PoolHeader) -> bool
+// A pool of the LOG variant may have this header.
+fn is_pool_header(header: &PoolHeader) -> bool
     ensures { IsTrue result ↔ IsPoolHeader header.now }
 {
     if !is_version(header.version)
@@ -78,11 +107,20 @@ pub(crate) fn is_pool_header(header: &PoolHeader) -> bool
     all_granules(header.arenas, header.granules) <= POOL_GRANULES
 }
 
-/// Reads the header line that the words of an arena or a pool begin with. BadLength comes exactly where there are fewer
-/// than eight words; then BadHeader names the first word of the line that is not of the format, and the word.
-pub fn header_of(words: &[u64]) -> Result<PoolHeader, Defect>
-    ensures header { IfOk result (IsHeader words.now) }
-    ensures defect { IfErr result (IsHeaderDefect words.now) }
+// A pool of a variant may have it.
+fn is_header_for(variant: PoolVariant, header: &PoolHeader) -> bool
+    ensures { IsTrue result ↔ IsHeaderFor variant header.now }
+{
+    match variant {
+        PoolVariant::Log => is_pool_header(header),
+        PoolVariant::Gc => header.version == 1 && is_pool_header(header),
+    }
+}
+
+// Reads the header line of an arena of a variant, as the two calls below tell.
+pub(crate) fn read_line(variant: PoolVariant, words: &[u64]) -> Result<PoolHeader, Defect>
+    ensures header { IfOk result (IsHeaderLine variant words.now) }
+    ensures defect { IfErr result (IsLineDefect variant words.now) }
 {
     if words.len() < 8 {
         return Err(Defect::BadLength {
@@ -90,13 +128,30 @@ pub fn header_of(words: &[u64]) -> Result<PoolHeader, Defect>
             need: 64,
         });
     }
-    let word = second_word(words)?;
+    let word = second_word(variant, words)?;
     let header = fields_of(word);
-    if !is_pool_header(&header) {
+    if !is_header_for(variant, &header) {
         return Err(Defect::BadHeader {
             word: 1,
             value: word,
         });
     }
     Ok(header)
+}
+
+/// Reads the header line that the words of an arena or a pool begin with. BadLength comes exactly where there are fewer
+/// than eight words; then BadHeader names the first word of the line that is not of the format, and the word.
+pub fn header_of(words: &[u64]) -> Result<PoolHeader, Defect>
+    ensures header { IfOk result (IsHeader words.now) }
+    ensures defect { IfErr result (IsHeaderDefect words.now) }
+{
+    read_line(PoolVariant::Log, words)
+}
+
+/// The same of an arena or a pool of the GC variant.
+pub fn gc_header_of(words: &[u64]) -> Result<PoolHeader, Defect>
+    ensures header { IfOk result (IsGcHeader words.now) }
+    ensures defect { IfErr result (IsGcHeaderDefect words.now) }
+{
+    read_line(PoolVariant::Gc, words)
 }

@@ -1,11 +1,11 @@
 // The image of a pool.
 ghost use Rattle.std.specs.Prelude.{◌≡◌, ◌↔◌, ◌*◌, ◌<◌, ◌≤◌, List, ℕ, length, IsTrue, IfOk, IfErr, OnOk, MatchResult};
-ghost use Rattle.pool_layout.specs.Header.{header_word, IsPoolHeader, IsHeader, IsBadHeaderLine};
+ghost use Rattle.pool_layout.specs.Header.{header_word, IsPoolHeader, IsHeaderLine, IsBadHeaderLine};
 ghost use Rattle.pool_layout.specs.Bytes.{words_of_bytes};
-ghost use Rattle.pool_layout.specs.Image.{part_of, header_of_arena, image_length, IsFirstHeader, IsFirstLine, IsFirstFields, HasBadArena, AreWordsOf, AreWords, IsPoolImage, IsImageOf, IsImageDefect, IfDefect};
+ghost use Rattle.pool_layout.specs.Image.{part_of, header_of_arena, image_length, IsFirstHeader, IsFirstLine, IsFirstFields, HasBadArena, AreWordsOf, AreWords, IsPoolOf, IsPoolImage, IsGcPoolImage, IsImageOf, IsDefectIn, IsImageDefect, IsGcImageDefect, IfDefect};
 
 use crate::bytes::add_words;
-use crate::header::{header_of, header_word, second_word};
+use crate::header::{PoolVariant, header_word, read_line, second_word};
 use crate::{Defect, PoolHeader};
 use pmem_lines::OutOfMemory;
 use std::alloc::Global;
@@ -65,6 +65,26 @@ pub fn pool_header(words: &[u64], bytes: u64) -> Result<PoolHeader, ArenaDefect>
     ensures pool { IfOk result (IsPoolImage words.now) }
     ensures defect { IfErr result (λ found. (image : List ℕ) → AreWordsOf words.now bytes image → IsImageDefect image found.arena found.defect) }
 {
+    read_pool(PoolVariant::Log, words, bytes)
+}
+
+/// The same of a pool of the GC variant.
+pub fn gc_pool_header(words: &[u64], bytes: u64) -> Result<PoolHeader, ArenaDefect>
+    requires { AreWords words.now bytes }
+    ensures whole { OnOk result (bytes ≡ 8 * length words.now) }
+    ensures pool { IfOk result (IsGcPoolImage words.now) }
+    ensures defect { IfErr result (λ found. (image : List ℕ) → AreWordsOf words.now bytes image → IsGcImageDefect image found.arena found.defect) }
+{
+    read_pool(PoolVariant::Gc, words, bytes)
+}
+
+// The header of arena 0 of the image of a pool of a variant, as the two calls above tell.
+fn read_pool(variant: PoolVariant, words: &[u64], bytes: u64) -> Result<PoolHeader, ArenaDefect>
+    requires { AreWords words.now bytes }
+    ensures whole { OnOk result (bytes ≡ 8 * length words.now) }
+    ensures pool { IfOk result (IsPoolOf variant words.now) }
+    ensures defect { IfErr result (λ found. (image : List ℕ) → AreWordsOf words.now bytes image → IsDefectIn variant image found.arena found.defect) }
+{
     if bytes < 64 {
         return Err(ArenaDefect {
             arena: 0,
@@ -74,7 +94,7 @@ pub fn pool_header(words: &[u64], bytes: u64) -> Result<PoolHeader, ArenaDefect>
             },
         });
     }
-    let header = match first_header(words) {
+    let header = match first_header(variant, words) {
         Ok(header) => header,
         Err(defect) => return Err(ArenaDefect { arena: 0, defect }),
     };
@@ -85,18 +105,18 @@ pub fn pool_header(words: &[u64], bytes: u64) -> Result<PoolHeader, ArenaDefect>
             defect: Defect::BadLength { have: bytes, need },
         });
     }
-    match check_arenas(words, &header) {
+    match check_arenas(variant, words, &header) {
         Ok(()) => Ok(header),
         Err(found) => Err(found),
     }
 }
 
 // The header of arena 0; the first word of its line that is bad, where one is.
-fn first_header(words: &[u64]) -> Result<PoolHeader, Defect>
+fn first_header(variant: PoolVariant, words: &[u64]) -> Result<PoolHeader, Defect>
     requires { 8 ≤ length words.now }
-    ensures { MatchResult result (IsFirstLine words.now) (IsBadHeaderLine words.now IsFirstFields) }
+    ensures { MatchResult result (IsFirstLine variant words.now) (IsBadHeaderLine variant words.now (IsFirstFields variant)) }
 {
-    let header = header_of(words)?;
+    let header = read_line(variant, words)?;
     if header.number != 0 {
         return Err(Defect::BadHeader {
             word: 1,
@@ -107,14 +127,19 @@ fn first_header(words: &[u64]) -> Result<PoolHeader, Defect>
 }
 
 // The header line of an arena, by the header of arena 0; the first word of it that is bad, where one is.
-fn check_arena(words: &[u64], header: &PoolHeader, arena: u32) -> Result<(), Defect>
+fn check_arena(
+    variant: PoolVariant,
+    words: &[u64],
+    header: &PoolHeader,
+    arena: u32,
+) -> Result<(), Defect>
     requires size { length words.now ≡ header.now.arenas * header.now.granules * 2048 }
-    requires first { IsFirstHeader header.now }
+    requires first { IsFirstHeader variant header.now }
     requires inside { arena < header.now.arenas }
-    ensures { MatchResult result (λ _. IsHeader (part_of words.now header.now.granules arena) (header_of_arena header.now arena)) (λ defect. IsBadHeaderLine (part_of words.now header.now.granules arena) (λ word. word ≡ header_word (header_of_arena header.now arena)) defect) }
+    ensures { MatchResult result (λ _. IsHeaderLine variant (part_of words.now header.now.granules arena) (header_of_arena header.now arena)) (λ defect. IsBadHeaderLine variant (part_of words.now header.now.granules arena) (λ word. word ≡ header_word (header_of_arena header.now arena)) defect) }
 {
     let part = parts(header, words, arena);
-    let word = second_word(part)?;
+    let word = second_word(variant, part)?;
     let own = PoolHeader {
         version: header.version,
         number: arena,
@@ -131,14 +156,14 @@ fn check_arena(words: &[u64], header: &PoolHeader, arena: u32) -> Result<(), Def
 }
 
 // The header lines of all arenas, by the header of arena 0.
-fn check_arenas(words: &[u64], header: &PoolHeader) -> Result<(), ArenaDefect>
+fn check_arenas(variant: PoolVariant, words: &[u64], header: &PoolHeader) -> Result<(), ArenaDefect>
     requires size { length words.now ≡ header.now.arenas * header.now.granules * 2048 }
-    requires line { IsFirstLine words.now header.now }
-    ensures all { OnOk result (IsPoolImage words.now header.now) }
-    ensures bad { IfErr result (λ found. (image : List ℕ) → words.now ≡ words_of_bytes image → length image ≡ image_length header.now → HasBadArena image found.arena found.defect) }
+    requires line { IsFirstLine variant words.now header.now }
+    ensures all { OnOk result (IsPoolOf variant words.now header.now) }
+    ensures bad { IfErr result (λ found. (image : List ℕ) → words.now ≡ words_of_bytes image → length image ≡ image_length header.now → HasBadArena variant image found.arena found.defect) }
 {
     for arena in 1..header.arenas {
-        match check_arena(words, header, arena) {
+        match check_arena(variant, words, header, arena) {
             Ok(()) => {}
             Err(defect) => return Err(ArenaDefect { arena, defect }),
         }
@@ -148,7 +173,7 @@ fn check_arenas(words: &[u64], header: &PoolHeader) -> Result<(), ArenaDefect>
 
 // How many bytes a pool with this header of arena 0 has.
 fn image_length(header: &PoolHeader) -> u64
-    requires { IsFirstHeader header.now }
+    requires { IsPoolHeader header.now }
     ensures { result ≡ image_length header.now }
 {
     u64::from(header.arenas) * u64::from(header.granules) * 16384

@@ -1,8 +1,8 @@
-// Laws of images. With the contract of `image_words` they say that it gives the words of bytes exactly where these are
-// the image of a pool, and else their one first defect, unless memory runs out.
+// Laws of images, of either variant. With the contracts of `pool_header`, `gc_pool_header` and `image_words` they say that bytes are
+// refused exactly where they are no image of a pool, and that the defect which is told is their one first defect.
 ghost use Rattle.pool_layout.specs.Laws.{LawOfImages, LawOfNoDefect, LawOfOneDefect, LawOfWordsOfBytes, LawOfBytesOfWords, LawOfPieces};
 
-/// Bytes are the image of a pool, or they have a defect.
+/// Bytes are the image of a pool of a variant, or they have a defect as one.
 pub fn law_of_images()
     ensures { LawOfImages }
 {}

@@ -20,8 +20,11 @@ mod text;
 
 pub use bytes::{add_words, image_bytes};
 pub use defect::Defect;
-pub use header::{PoolHeader, header_of, header_text, header_word};
-pub use image::{ArenaDefect, ImageFault, image_words, parts, pool_header};
+pub use header::{
+    PoolHeader, PoolVariant, gc_header_of, has_gc_text, header_of, header_text, header_word,
+    text_of,
+};
+pub use image::{ArenaDefect, ImageFault, gc_pool_header, image_words, parts, pool_header};
 pub use laws::{
     law_of_bytes_of_words, law_of_images, law_of_no_defect, law_of_one_defect, law_of_pieces,
     law_of_words_of_bytes,

@@ -1,2 +1,4 @@
 pub mod Bytes
 pub mod Reading
+pub mod Whole
+pub mod Sayings

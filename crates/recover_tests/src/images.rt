@@ -3,10 +3,9 @@ ghost use Rattle.std.specs.Prelude.{◌≡◌, ◌≤◌, ◌%◌, length};
 
 use crate::values::same;
 use arena_core::{Arena, Freed, Moved, Placed};
-use check_tests::{Base, Put, image, put};
+use check_tests::{Base, Became, Put, image, image_under, recovered_to, was_refused};
 use heap_model::Block;
-use pmem_lines::{OutOfMemory, Pmem, SimPmem};
-use pool_layout::Defect;
+use pmem_lines::{OutOfMemory, SimPmem};
 use rand_core::SeedableRng;
 use rand_xoshiro::SplitMix64;
 use recover::{RecoverFault, recover};
@@ -17,19 +16,6 @@ use std::test::Fail;
 /// The events that a device has room for which may be of any version.
 pub const ROOM: u32 = 4096;
 
-/// What became of an image.
-#[derive(Clone, Copy, Debug, PartialEq, Eq)]
-pub enum Became {
-    /// It is exact: these are its words, and so many events made it so.
-    Wanted { events: u32 },
-    /// It has other words.
-    Other,
-    /// It was refused for this defect, and the device is as it was.
-    Refused(Defect),
-    /// It was refused, and the device is not as it was.
-    Changed,
-}
-
 /// The image of the words of two rows is recovered, and its words are compared with those of a third row over it.
 pub fn recovered(
     alloc: Global,
@@ -39,18 +25,6 @@ pub fn recovered(
 ) -> Result<Became, OutOfMemory> {
     let wanted = image_under(alloc, base, changes, after)?;
     compared(alloc, base, changes, &wanted)
-}
-
-// The words of three rows, each over the one before.
-fn image_under(
-    alloc: Global,
-    base: &Base,
-    changes: &[Put],
-    after: &[Put],
-) -> Result<Vec<u64>, OutOfMemory> {
-    let mut words = image(alloc, base, changes)?;
-    put(&mut words, after);
-    Ok(words)
 }
 
 // The image of the words of two rows is recovered, and its words are compared with these.
@@ -94,26 +68,6 @@ fn refused_by(
     match fault {
         RecoverFault::Memory(error) => Err(error),
         RecoverFault::Defect(defect) => Ok(was_refused(device, before, defect)),
-    }
-}
-
-// A device was made exact: whether it has the words that are wanted.
-fn recovered_to(device: &SimPmem, wanted: &[u64]) -> Became {
-    if device.words(0, device.size_words()) == wanted {
-        Became::Wanted {
-            events: device.event_count(),
-        }
-    } else {
-        Became::Other
-    }
-}
-
-// A device was refused for this defect: whether it has the words from before, and no event.
-fn was_refused(device: &SimPmem, before: &[u64], defect: Defect) -> Became {
-    if device.words(0, device.size_words()) == before && device.event_count() == 0 {
-        Became::Refused(defect)
-    } else {
-        Became::Changed
     }
 }
 

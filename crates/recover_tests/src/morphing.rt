@@ -1,7 +1,7 @@
 // An arena with a slab that took another class, and images in which several things are loose.
-use crate::images::{Answered, Became, Row, all_become, answers, freed, placed, recovered};
+use crate::images::{Answered, Row, all_become, answers, freed, placed, recovered};
 use crate::values::same;
-use check_tests::{IN_TRANSITION, Put};
+use check_tests::{Became, IN_TRANSITION, Put};
 use pool_layout::Defect;
 use std::test::Fail;
 

@@ -1,7 +1,7 @@
 // Images in which nothing is loose, and open entries of an arena with one block.
-use crate::images::{Became, Row, all_become, goes_on, placed, recovered};
+use crate::images::{Row, all_become, goes_on, placed, recovered};
 use crate::values::same;
-use check_tests::{IN_TRANSITION, ONE_BLOCK, Put, SECOND_VERSION};
+use check_tests::{Became, IN_TRANSITION, ONE_BLOCK, Put, SECOND_VERSION};
 use heap_model::Block;
 use pool_layout::Defect;
 use std::test::Fail;

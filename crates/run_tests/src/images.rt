@@ -1,6 +1,6 @@
 // Images made by hand, and what `check` and `recover` write of them.
 //
-// Here is how images are made and how both commands run over them. `entries` has images with open entries, `transition` of a
+// Here is how both commands run over images. `entries` has images with open entries, `transition` of a
 // slab that takes another class, `defects` with a defect, `pools` of several arenas and of wrong lengths, `second_version` of
 // version 2, and `cycles` images that `image` makes of traces. `migration` has images that `migrate` makes of images.
 mod cycles;
@@ -17,9 +17,7 @@ use std::process::Abort;
 use std::sync::Wait;
 use std::test::Fail;
 use std::thread::Threads;
-
-/// Bytes of an image: where they begin, and what they are.
-pub(crate) type Run = (usize, &'static [u8]);
+use worked_runs::{Run, image_of, put};
 
 /// An arena of 16 granules with one slab of class 6, whose block 0 root 5 holds; all else is 0.
 pub(crate) const ONE_BLOCK: [Run; 7] = [
@@ -30,22 +28,6 @@ pub(crate) const ONE_BLOCK: [Run; 7] = [
     (49216, &[2, 4]),
     (65536, &[1, 6]),
     (65600, &[1]),
-];
-
-/// An arena of 16 granules with a large block of 8 granules, of root 0, and a slab at granule 12 that took class 19 and
-/// was of class 3 before: root 1 holds block 0 of class 3, and root 2 block 1 of class 19. All else is 0.
-pub(crate) const IN_TRANSITION: [Run; 11] = [
-    (0, b"NVALLOG1"),
-    (8, &[1, 0, 0, 0, 16, 0, 1, 0]),
-    (16, &[1]),
-    (16386, &[1]),
-    (16393, &[8, 3]),
-    (16401, &[12, 3]),
-    (49216, &[1, 4, 0, 8]),
-    (49280, &[2, 12]),
-    (196608, &[3, 19, 3, 1]),
-    (196736, &[1]),
-    (197184, &[1]),
 ];
 
 /// How many bytes of an image of one arena of 16 granules there are, and the line that both commands write of them. Below 64
@@ -59,26 +41,6 @@ pub(crate) const TOO_SHORT: [(usize, &str); 7] = [
     (65536, "bad length 65536 262144\n"),
     (262143, "bad length 262143 262144\n"),
 ];
-
-/// So many bytes, of which those of a row are not 0.
-pub(crate) fn image_of(alloc: Global, size: usize, runs: &[Run]) -> Result<Vec<u8>, AllocError> {
-    let mut bytes = vec![in alloc; 0u8; size]?;
-    for (at, run) in runs {
-        put(&mut bytes, *at, run);
-    }
-    Ok(bytes)
-}
-
-/// Puts a run into an image, as far as it lies inside.
-pub(crate) fn put(bytes: &mut [u8], at: usize, run: &[u8]) {
-    for (i, byte) in run.iter().enumerate() {
-        if let Some(place) = at.checked_add(i) {
-            if place < bytes.len() {
-                bytes[place] = *byte;
-            }
-        }
-    }
-}
 
 /// `check` and `recover` end with this code over these bytes, and write these texts.
 pub(crate) fn both_tell<R: Abort + Threads + Wait + Sync>(

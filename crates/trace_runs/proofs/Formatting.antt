@@ -20,7 +20,8 @@ use Rattle.pmem_lines.proofs.Words.{AreZeros-zeros}
 use Rattle.pool_layout.specs.Header.{IsPoolHeader}
 use Rattle.heap_check.specs.Image.{header_in}
 use Rattle.heap_check.proofs.Formatted.{header_in-formatted}
-use Rattle.arena_core.proofs.Formats.{written, reading-format, IsFormatted-written}
+use Rattle.pool_layout.specs.declared.header.PoolVariant.TheVariants.{Log}
+use Rattle.arena_core.proofs.HeaderLines.{written, reading-line, formatted-written}
 
 -- the header of a trace's arena is one that a pool may have
 pub IsPoolHeader-for : {pool : PoolSize} {arena : ℕ} → IsPool pool → arena < pool.arenas → IsPoolHeader (header_for pool arena)
@@ -39,8 +40,8 @@ bounds-formed words header is = ap bounds_for is
 formatted_header : (header : PoolHeader) → IsPoolHeader header → header_in (formatted header) ≡ header
 unfolding formatted
 formatted_header header valid =
-    ap header_in (reading-format (zeros (2048 * header.granules)) header)
-    ∙ header_in-formatted (written (zeros (2048 * header.granules)) header) header (IsFormatted-written (zeros (2048 * header.granules)) header (AreZeros-zeros (2048 * header.granules)) valid (length-zeros (2048 * header.granules)))
+    ap header_in (reading-line Log (zeros (2048 * header.granules)) header)
+    ∙ header_in-formatted (written Log (zeros (2048 * header.granules)) header) header (formatted-written Log (zeros (2048 * header.granules)) header (AreZeros-zeros (2048 * header.granules)) valid (length-zeros (2048 * header.granules)))
 
 -- over a memory of zeros
 made_new : (header : PoolHeader) (arena : ArenaState) → IsPoolHeader header → arena.device ≡ appended (began (fresh (zeros (2048 * header.granules)) (layout_of header.version).room)) (format_events header) →

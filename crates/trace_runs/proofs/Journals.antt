@@ -1,5 +1,5 @@
 -- What a journal from a new arena says of the device.
-use Rattle.std.proofs.Common.{◌≡◌, ◌⊎◌, ℕ, suc, ◌≤◌, ◌<◌, ◌^◌, Bool, true, false, if◌then◌else◌, List, [], ◌∷◌, length, None, ap, ◌∙◌, subst, arith, inl, inr}
+use Rattle.std.proofs.Common.{◌≡◌, ◌⊎◌, ℕ, ◌<◌, ◌^◌, List, length, None, ap, ◌∙◌, subst, arith, inl, inr}
 use Rattle.pmem_lines.specs.Pmem.{words_of}
 use Rattle.pool_layout.specs.declared.header.PoolHeader.{PoolHeader}
 use Rattle.heap_model.specs.declared.call.Entry.{Entry}
@@ -10,7 +10,8 @@ use Rattle.heap_model.specs.Journal.{Leads, IsPlacedEntry}
 use Rattle.arena_core.specs.Arena.{ArenaState}
 use Rattle.arena_core.specs.Events.{call_events}
 use Rattle.arena_lock.specs.Legality.{machine_in, opening_state, LeadsTo}
-use Rattle.arena_journal.specs.Journals.{opened, begins_call, begun_by, line_behind, words_along, IsUntouched, IsBehindCall, IsBehind}
+use Rattle.arena_journal.specs.Journals.{opened, line_behind, words_along, IsUntouched, IsBehindCall, IsBehind}
+use Rattle.arena_journal.proofs.Journals.{begun_few}
 use Rattle.trace_runs.specs.Arenas.{bounds_for, formatted, IsNewArena}
 use Rattle.trace_runs.specs.Journals.{IsJournal, IsAsFormatted, IsBehindLast, HasRun}
 
@@ -27,15 +28,6 @@ pub IsJournal-opened : (header : PoolHeader) (first : ArenaState) (journal : Lis
 IsJournal-opened header first journal last new leads =
     subst (λ (s : PlacedState). Leads (IsPlacedEntry (bounds_for header)) s journal last) (opened_bare header first new)
     (subst (λ (b : Bounds). Leads (IsPlacedEntry b) (opening_state (opened first)) journal last) new.bounds leads)
-
--- no more calls begin than there are entries
-one_or_none : (b : Bool) (m n : ℕ) → m ≤ n → (if b then suc m else m) ≤ suc n
-one_or_none true m n le = omega (arith, le)
-one_or_none false m n le = omega (arith, le)
-
-begun_few : (journal : List Entry) → begun_by journal ≤ length journal
-begun_few [] = omega arith
-begun_few (e ∷ es) = one_or_none (begins_call e.call) (begun_by es) (length es) (begun_few es)
 
 last_of : (header : PoolHeader) (first now : ArenaState) (journal : List Entry) → IsNewArena header first → IsUntouched (opened first) journal now ⊎ IsBehindCall (opened first) journal now →
     IsAsFormatted header now.device journal ⊎ IsBehindLast header now.device journal

@@ -7,7 +7,6 @@ use Rattle.heap_model.specs.Machine.{Bounds, Range}
 use Rattle.heap_check.specs.Heap.{heap}
 use Rattle.heap_check.specs.Image.{bounds_of}
 use Rattle.heap_check.specs.State.{HaveSameHeap}
-use Rattle.arena_core.specs.Arena.{IsBlockOfRoot}
 use Rattle.trace_runs.specs.Blocks.{listed, blocks_from, blocks_of, blocks_in}
 
 -- the blocks of m roots, and of n roots behind them
@@ -50,10 +49,9 @@ blocks_in-same words image bounds same =
     ∙ ap (λ (b : Bounds). blocks_from (heap (tables_of words)) 0 b.roots) bounds
 
 -- the blocks up to a root, and then its own, where it has one
-pub blocks_from-some : (words : List ℕ) (from root : ℕ) (before items : List Block) (block : Block) → from ≤ root → items ≡ before ++ blocks_from (heap (tables_of words)) from (root - from) →
-    IsBlockOfRoot words root (Some block) → items ++ block ∷ [] ≡ before ++ blocks_from (heap (tables_of words)) from (root + 1 - from)
-blocks_from-some words from root before items block low so_far is =
-    let h = heap (tables_of words) in
+pub one_listed : (h : ℕ → Option Range) (from root : ℕ) (before items : List Block) (block : Block) → from ≤ root → items ≡ before ++ blocks_from h from (root - from) →
+    (block.root ≡ root) × (h root ≡ Some (record { at = block.at; size = block.size })) → items ++ block ∷ [] ≡ before ++ blocks_from h from (root + 1 - from)
+one_listed h from root before items block low so_far is =
     let here : block ∷ [] ≡ listed root (h root) =
     ap (λ r. let b : Block = record { root = r; at = block.at; size = block.size } in b ∷ []) is.0 ∙ ap (λ (o : Option Range). listed root o) (sym is.1) in
     ap (λ (bs : List Block). bs ++ block ∷ []) so_far
@@ -62,10 +60,9 @@ blocks_from-some words from root before items block low so_far is =
     ∙ ap (λ (bs : List Block). before ++ bs) (sym (blocks_from-more h from root low))
 
 -- and nothing, where it has none
-pub blocks_from-no : (words : List ℕ) (from root : ℕ) (before items : List Block) → from ≤ root → items ≡ before ++ blocks_from (heap (tables_of words)) from (root - from) →
-    IsBlockOfRoot words root None → items ≡ before ++ blocks_from (heap (tables_of words)) from (root + 1 - from)
-blocks_from-no words from root before items low so_far is =
-    let h = heap (tables_of words) in
+pub none_listed : (h : ℕ → Option Range) (from root : ℕ) (before items : List Block) → from ≤ root → items ≡ before ++ blocks_from h from (root - from) →
+    h root ≡ None → items ≡ before ++ blocks_from h from (root + 1 - from)
+none_listed h from root before items low so_far is =
     so_far
     ∙ ap (λ (bs : List Block). before ++ bs) (sym (append-nil (blocks_from h from (root - from))))
     ∙ ap (λ (o : Option Range). before ++ (blocks_from h from (root - from) ++ listed root o)) (sym is)

@@ -12,10 +12,12 @@
 // `short` has short traces, `stacks` and `seats` traces that show which block is given, `classes` and `old_blocks` traces in
 // which slabs take other classes, `payload` traces that write and read words, `moves` traces that move blocks, and
 // `second_version` traces of pools of version 2. For how full a slab may be that takes another class, `thresholds` has
-// numbers, of which `filled` makes a trace and its report.
+// numbers, of which `filled` makes a trace and its report. `images` makes images of pools of rows of bytes, for `run_tests` and
+// `map_tests`.
 #![tactic(auto)]
 
 mod classes;
+mod images;
 mod moves;
 mod old_blocks;
 mod payload;
@@ -27,6 +29,7 @@ mod stacks;
 mod thresholds;
 
 pub use classes::{CLASSES_OF_ONE_SEAT, CLASSES_OF_SEVERAL_SEATS, OLD_BLOCK_GOES};
+pub use images::{IN_TRANSITION, Run, image_of, lay, put};
 pub use moves::MOVES;
 pub use old_blocks::OLD_BLOCKS;
 pub use payload::PAYLOAD;

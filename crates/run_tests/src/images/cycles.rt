@@ -1,5 +1,5 @@
 // Images that `image` makes of a trace, and what `check` and `recover` write of them.
-use crate::images::{IN_TRANSITION, ONE_BLOCK, Run, both_tell, image_of};
+use crate::images::{ONE_BLOCK, both_tell};
 use crate::runs::{ends_and_writes, tells};
 use crate::traces::{
     CLASSES_TAKEN, MIXED, REPEATS, ROLLS, SIXTEEN_ARENAS, TWO_ARENAS, writes_anew,
@@ -11,7 +11,7 @@ use std::process::Abort;
 use std::sync::Wait;
 use std::test::Fail;
 use std::thread::Threads;
-use worked_runs::expanded;
+use worked_runs::{IN_TRANSITION, Run, expanded, image_of};
 
 // The heaps of a report, as `recover` writes them: the line `heap M` of an arena names the arena, and its blocks are
 // those of the report.

@@ -1,6 +1,7 @@
 // Images with a defect, which `check` and `recover` refuse with one and the same line.
-use crate::images::{IN_TRANSITION, ONE_BLOCK, all_tell_of};
+use crate::images::{ONE_BLOCK, all_tell_of};
 use std::test::Fail;
+use worked_runs::IN_TRANSITION;
 
 const OF_ONE_BLOCK: &str = "version 3 | 8: 3 | arena 0 bad header 1 281543696187395
 chunk 16 in the directory | 16: 17 | arena 0 bad directory 17

@@ -1,7 +1,7 @@
 // Images of version 1 that are migrated, and images that are not. The log and the heap of version 2 begin 147456 bytes behind
 // those of version 1, so that each block does.
 use crate::images::second_version::LAST_ROOT;
-use crate::images::{ONE_BLOCK, Run, TOO_SHORT, both_tell, image_of, put};
+use crate::images::{ONE_BLOCK, TOO_SHORT, both_tell};
 use crate::runs::{all_tell, ends_and_writes, tells};
 use crate::traces::{ROLLS, writes_anew};
 use crate::values::same;
@@ -11,7 +11,7 @@ use std::process::Abort;
 use std::sync::Wait;
 use std::test::Fail;
 use std::thread::Threads;
-use worked_runs::expanded;
+use worked_runs::{Run, expanded, image_of, put};
 
 // The bytes that `migrate` writes of an image.
 fn migrated<R: Abort + Threads + Wait + Sync>(

@@ -1,11 +1,11 @@
 // Images of several arenas, and images of the wrong length.
-use crate::images::{ONE_BLOCK, Run, TOO_SHORT, all_tell_of, both_tell, image_of, put};
+use crate::images::{ONE_BLOCK, TOO_SHORT, all_tell_of, both_tell};
 use std::alloc::Global;
 use std::process::Abort;
 use std::sync::Wait;
 use std::test::Fail;
 use std::thread::Threads;
-use worked_runs::expanded;
+use worked_runs::{Run, expanded, image_of, put};
 
 // Two arenas of 16 granules: the header lines, and the first word of each log's directory.
 const TWO: [Run; 6] = [

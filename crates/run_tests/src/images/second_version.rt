@@ -1,12 +1,12 @@
 // Images of an arena of version 2: sound ones and those with a defect, at the places of that version and at the ends of its
 // ranges.
-use crate::images::{Run, all_tell_of, image_of};
+use crate::images::all_tell_of;
 use crate::runs::{ends_and_writes, halves};
 use crate::values::same;
 use nvheap::Status;
 use std::alloc::{AllocError, Global};
 use std::test::Fail;
-use worked_runs::{SECOND_VERSION, expanded};
+use worked_runs::{Run, SECOND_VERSION, expanded, image_of};
 
 /// An arena of version 2 of 25 granules with one slab of class 6, at granule 13, whose block 0 root 16383 holds; all else is 0.
 pub(crate) const LAST_ROOT: [Run; 7] = [

@@ -1,7 +1,8 @@
 // Images of a slab in transition: each is the image of a slab that took another class while an old block lives, with a
 // change. The lines are read off what such a slab holds, what an open entry must be, and the order of the defects.
-use crate::images::{IN_TRANSITION, all_tell_of};
+use crate::images::all_tell_of;
 use std::test::Fail;
+use worked_runs::IN_TRANSITION;
 
 const ROWS: &str =
     "none | none | arena 0 large 1 slabs 1 blocks 3 loose 0 | 0 65536 131072, 1 198656 64, 2 199680 1024

@@ -1,6 +1,6 @@
 // Hostile use: an image that was cut or patched, and ends that give and take one byte at a time and then fail. `pools` and
 // `defects` of `images` have more images that are refused, `faults` and `adapters` more ends that fail.
-use crate::images::{TOO_SHORT, both_tell, put};
+use crate::images::{TOO_SHORT, both_tell};
 use crate::outside::{REPORT, TRACE};
 use crate::runs::{ends, ends_and_writes};
 use crate::values::same;
@@ -12,6 +12,7 @@ use std::process::Abort;
 use std::sync::Wait;
 use std::test::Fail;
 use std::thread::Threads;
+use worked_runs::put;
 
 // The first so many bytes of the image that a call leaves.
 #[test]

@@ -21,10 +21,10 @@ $93..96 call 2 before, 5 67584 112 | call 2 after
 $97..103 call 2 after
 ";
 
-// The last malloc finds the log full. Behind the 12 events of each of 60 pairs it has 139 that make room and 3 that put
-// the entry into the log; event 863 stores the root, and 865 is its fence. The free stores it by event 866, and fences
-// by 868.
-const ROLLING: &str = "$720 call 120 after
+/// The last malloc finds the log full. Behind the 12 events of each of 60 pairs it has 139 that make room and 3 that put
+/// the entry into the log; event 863 stores the root, and 865 is its fence. The free stores it by event 866, and fences
+/// by 868.
+pub(crate) const ROLLING: &str = "$720 call 120 after
 $721..862 call 121 before
 $863..864 call 121 before | call 121 after, 0 65536 32768
 $865 call 121 after, 0 65536 32768

@@ -3,6 +3,7 @@
 use crate::crashes::all_leave;
 use crate::runs::all_end_and_write;
 use crate::traces::ROLLS;
+use crate::traces::crashes::ROLLING;
 use std::test::Fail;
 
 // A malloc that makes a slab has 3 events for its state word, 3 for the log and 3 for the root.
@@ -120,16 +121,7 @@ fn crashes_in_calls(rt: HostRuntime) -> Result<(), Fail> {
     all_leave(&rt, rt.alloc(), "gc-crash 0", "heap", CALLS, 8)
 }
 
-// The last malloc finds the log full: 139 events make room behind the 12 of each of 60 pairs, and 3 put the entry into the log. The
-// free stores its root by event 866, and fences by 868.
-const ROLLING: &str = "$720 call 120 after
-$721..862 call 121 before
-$863..864 call 121 before | call 121 after, 0 65536 32768
-$865 call 121 after, 0 65536 32768
-$866..867 call 122 before, 0 65536 32768 | call 122 after
-$868..871 call 122 after
-";
-
+// The same events as of the LOG variant: 139 that make room behind the 12 of each of 60 pairs, and 3 that put the entry into the log.
 #[test]
 fn crashes_where_the_log_rolls(rt: HostRuntime) -> Result<(), Fail> {
     let table = format!(in rt.alloc(); "{ROLLS}{ROLLING}")?;

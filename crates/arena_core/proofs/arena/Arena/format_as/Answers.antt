@@ -1,6 +1,8 @@
 use Rattle.std.proofs.Common.{sym, ap, arith}
 use Rattle.arena_core.proofs.Common.{Layout, layout_rules}
-use Rattle.arena_core.proofs.Formats.{IsWritten, formatted_device, formatted_crash, formatted_ready, formatted_exact, formatted_log, formatted_arena}
+use Rattle.pool_layout.specs.declared.header.PoolVariant.TheVariants.{Log}
+use Rattle.arena_core.proofs.HeaderLines.{IsWritten, formatted_device, formatted_ready, formatted_log}
+use Rattle.arena_core.proofs.Formats.{formatted_exact, formatted_steady, formatted_arena}
 use Rattle.arena_core.proofs.arena.Arena.format_as.Given as given
 use Rattle.arena_core.proofs.arena.Arena.format_as.Goals as goal
 
@@ -9,7 +11,7 @@ take_front-requires-clause-high g c =
     omega (arith, c.requires.header.least, (layout_rules c.args.version).some_granule, ap (λ (row : Layout). row.first_granule) c.layout_of.ensures.row, c.room.invariant.index, c.granules.ensures.granules)
 
 -- the header line was written
-written : (g : given.Over) (c : goal.After-device-3-1 g) → IsWritten (g.P.Pmem.state c.args.device) (g.P.Pmem.state c.begin.new.self) (g.P.Pmem.state c.write_header.new.device) (record { version = c.args.version; number = c.args.number; arenas = c.args.arenas; granules = c.granules.result })
+written : (g : given.Over) (c : goal.After-device-3-1 g) → IsWritten Log (g.P.Pmem.state c.args.device) (g.P.Pmem.state c.begin.new.self) (g.P.Pmem.state c.write_header.new.device) (record { version = c.args.version; number = c.args.number; arenas = c.args.arenas; granules = c.granules.result })
 written g c = grind arith
 
 pub load-requires-clause-log : goal.load-requires-clause-log
@@ -27,4 +29,4 @@ pub returns-clause-empty : goal.returns-clause-empty
 returns-clause-empty g c = (formatted_exact (written g c.before)).1
 
 pub returns-clause-crash : goal.returns-clause-crash
-returns-clause-crash g c = formatted_crash (written g c.before)
+returns-clause-crash g c = formatted_steady (written g c.before)

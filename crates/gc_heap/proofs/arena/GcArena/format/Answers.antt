@@ -3,9 +3,11 @@ use Rattle.heap_model.specs.Machine.{no_heap}
 use Rattle.heap_indexes.specs.Indexes.{AreIndexesOf}
 use Rattle.arena_core.proofs.Formats.{IsPoolHeader-first}
 use Rattle.arena_core.proofs.Readiness.{first_room, first_most}
-use Rattle.gc_check.specs.Header.{IsGcPoolHeader}
+use Rattle.pool_layout.specs.declared.header.PoolVariant.TheVariants.{Gc}
+use Rattle.pool_layout.specs.Header.{IsGcPoolHeader}
 use Rattle.gc_heap.specs.Arena.{gc_bounds}
-use Rattle.gc_heap.proofs.Formats.{IsWritten, formatted_crash, formatted_ready, formatted_exact, formatted_empty, formatted_log, formatted_inside, formatted_arena}
+use Rattle.arena_core.proofs.HeaderLines.{IsWritten, formatted_ready, formatted_log}
+use Rattle.gc_heap.proofs.Formats.{formatted_exact, formatted_empty, formatted_steady, formatted_inside, formatted_arena}
 use Rattle.gc_heap.proofs.arena.GcArena.format.Given as given
 use Rattle.gc_heap.proofs.arena.GcArena.format.Goals as goal
 
@@ -14,7 +16,7 @@ header : (number arenas granules : ℕ) → number < arenas → arenas ≤ 16 �
 header number arenas granules below few least most = record { valid = IsPoolHeader-first number arenas granules below few least (omega (arith, most, first_most)); first = refl }
 
 -- the header line was written
-made : (g : given.Over) (c : goal.After-device-3-1 g) → IsWritten (g.P.Pmem.state c.args.p) (g.P.Pmem.state c.begin.new.self) (g.P.Pmem.state c.write_header.new.device) (record { version = 1; number = c.args.number; arenas = c.args.arenas; granules = c.granules-granules.result })
+made : (g : given.Over) (c : goal.After-device-3-1 g) → IsWritten Gc (g.P.Pmem.state c.args.p) (g.P.Pmem.state c.begin.new.self) (g.P.Pmem.state c.write_header.new.device) (record { version = 1; number = c.args.number; arenas = c.args.arenas; granules = c.granules-granules.result })
 made g c =
     let is = c.granules-granules.ensures.is in
     record {
@@ -56,4 +58,4 @@ pub returns-clause-empty : goal.returns-clause-empty
 returns-clause-empty g c = formatted_empty (made g c.before)
 
 pub returns-clause-crash : goal.returns-clause-crash
-returns-clause-crash g c = formatted_crash (made g c.before)
+returns-clause-crash g c = formatted_steady (made g c.before)

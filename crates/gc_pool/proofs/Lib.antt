@@ -1,3 +1,0 @@
-pub mod Headers
-pub mod Pools
-pub mod NoDefect

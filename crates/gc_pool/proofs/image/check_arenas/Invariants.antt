@@ -1,7 +1,0 @@
-use Rattle.std.proofs.Common.{ℕ, ◌<◌}
-use Rattle.gc_check.specs.Header.{IsGcHeader}
-use Rattle.pool_layout.specs.Image.{part_of, header_of_arena}
-use Rattle.gc_pool.proofs.image.check_arenas.Given as goal
-
-abbrev pub invariant-loop-arena : goal.invariant-loop-arena
-invariant-loop-arena l = (earlier : ℕ) → earlier < l.arena → IsGcHeader (part_of l.words l.header.granules earlier) (header_of_arena l.header earlier)
